@@ -4,7 +4,6 @@ use Rattle.std.specs.List.{AllByRecursion}
 use Rattle.url.specs.Parts.{Parts}
 use Rattle.cds_object.specs.Object.{ObjectRow}
 use Rattle.cds_object.specs.declared.record.Record.{Record}
-use Rattle.cds_catalog.specs.Library.{map_of}
 use Rattle.cds_catalog.specs.History.{end_of}
 use Rattle.cds_catalog.specs.Scans.{bad_record}
 use Rattle.cds_didl.specs.Plain.{IsPlainText, history_of, ArePlainRecords}
@@ -14,8 +13,7 @@ use Rattle.cds_soap.specs.Laws.{is_host, AreRequest}
 use Rattle.cds_load.specs.declared.exchange.Ask.{Ask}
 use Rattle.cds_load.specs.declared.exchange.Shown.{Shown}
 use Rattle.cds_load.specs.declared.exchange.Shown.TheVariants.{Page}
-use Rattle.cds_load.specs.Server.{Moment, reply_to}
-use Rattle.cds_load.specs.Servers.{moment_at}
+use Rattle.cds_load.specs.Server.{Moment, moment_at, reply_to}
 use Rattle.cds_exchange.specs.Asking.{action_of}
 use Rattle.cds_exchange.specs.Readings.{ReadsAs, IsReading}
 use Rattle.cds_exchange.specs.Honest.{answer_saying, IsBase, CanBeShownTo, IsPlainMoment, IsInRange}
@@ -68,4 +66,4 @@ abbrev pub HistoriesArePlain : Type 0
 HistoriesArePlain =
     (token : List ℕ) (first : ℕ) (scans : List (List Record)) → IsPlainText token → AllByRecursion ArePlainRecords scans
     → AllByRecursion (λ records. bad_record records ≡ None) scans → end_of (history_of first scans) < 2 ^ 32
-    → IsPlainMoment (moment_at token first (map map_of scans))
+    → IsPlainMoment (moment_at token (history_of first scans))

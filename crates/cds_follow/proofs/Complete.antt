@@ -10,14 +10,14 @@ use Rattle.cds_catalog.proofs.StepsFind.{none≢some}
 use Rattle.cds_load.specs.declared.exchange.Ask.TheVariants.{Metadata}
 use Rattle.cds_load.specs.declared.exchange.Shown.{Shown}
 use Rattle.cds_load.specs.declared.exchange.Shown.TheVariants.{Text, Number, Page, Fault}
-use Rattle.cds_load.specs.Stages.{Waiting, Listing, Held, Idle, Begun, HasToken, HasNumber, HasRoot, Lists, HasPage, HasCopy, Taken, Holds, Unreadable, Torn, taken, listed, after_page, page_taken, root_taken, listing_of, listed_id, listed_children, fits, others_waiting, put_rows, put_containers}
+use Rattle.cds_load.specs.Stages.{Waiting, Listing, Held, Idle, Begun, HasToken, HasNumber, HasRoot, Lists, HasPage, HasCopy, taken, listed, after_page, page_taken, root_taken, listing_of, listed_id, listed_children, fits, others_waiting, put_rows, put_containers, Loads}
 use Rattle.cds_commands.specs.Commands.{Command, scans_of, oldest, AreAccepted}
 use Rattle.cds_commands.specs.Notes.{Note, next_seq_of, seq_limit, alive_names, notes_of, changes_above}
 use Rattle.cds_commands.specs.Releases.{released_to, releases_of}
 use Rattle.cds_commands.specs.Subscriptions.{granted, runs_until, unless_past, is_alive}
 use Rattle.cds_follow.specs.Copy.{Reads, least_unread, read_up_to, rows_after, known_of}
 use Rattle.cds_follow.specs.Inbox.{ReplicaTurn, Begins, Shows, Requests, Accepts, Refuses, Delivers, accepted, received, has_seq, next_seq, missing, taken_by}
-use Rattle.cds_follow.specs.Follow.{Known, position, Outcome, Knows, CannotBeRead, Jumps, Tears, load_begun, is_drop, with_changes, new_changes, heard_of, with_notes, loaded, is_of, row_read, copy_read, with_reply, known_after, known_by, ask_of, next_ask, says_of, says_without_gap, copy_says, says}
+use Rattle.cds_follow.specs.Follow.{Known, position, load_begun, is_drop, with_changes, new_changes, heard_of, with_notes, loaded, is_of, row_read, copy_read, with_reply, known_by, ask_of, next_ask, says_of, says_without_gap, copy_says, says}
 use Rattle.cds_follow.specs.Given.{length_at, given_by}
 use Rattle.cds_follow.specs.HonestLaws.{load_was_begun, honest_answers_are_complete}
 use Rattle.cds_follow.specs.declared.says.Says.TheVariants.{BehindVersion, Stands}
@@ -30,23 +30,19 @@ use Rattle.cds_follow.proofs.CopyOf.{IsCopy}
 use Rattle.cds_follow.proofs.Stages.{Stage, past-low}
 use Rattle.cds_follow.proofs.Heard.{knows-is, counted-stays, notes-leave}
 use Rattle.cds_follow.proofs.Honest.{IsServed, served-later, entries-served}
+use Rattle.cds_load.specs.Outcome.{Outcome, Goes, CannotBeRead, Jumps, Tears, after_outcome}
 
 -- ---- a load that was begun is not idle
 
 abbrev is_idle : Held → Bool
 is_idle Idle = true
-is_idle Begun = false
-is_idle HasToken = false
-is_idle (HasNumber number) = false
-is_idle (HasRoot number root) = false
-is_idle (Lists number listing) = false
-is_idle (HasPage number listing page) = false
+is_idle (Loads stage) = false
 is_idle (HasCopy number rows) = false
 
-holds-is : (a b : Held) → Holds a ≡ Holds b → a ≡ b
+holds-is : (a b : Held) → Goes a ≡ Goes b → a ≡ b
 holds-is a b e = cc
 
-busy-by : (a b : Held) → Holds a ≡ Holds b → is_idle a ≡ false → is_idle b ≡ false
+busy-by : (a b : Held) → Goes a ≡ Goes b → is_idle a ≡ false → is_idle b ≡ false
 busy-by a b e f = ap is_idle (sym (holds-is a b e)) ∙ f
 
 listed-busy : (number : ℕ) (rows : List ObjectRow) (ws : List Waiting) → is_idle (listed number rows ws) ≡ false
@@ -58,93 +54,89 @@ page-busy number listing page = by (nat_eq (length (listing.part ++ page)) (list
   where
     by : (b : Bool) → is_idle (cond b
         (listed number (put_rows (listing.part ++ page) listing.rows) (put_containers (listing.part ++ page) (others_waiting listing)))
-        (Lists number (record { rows = listing.rows; waiting = listing.waiting; part = listing.part ++ page }))) ≡ false
+        (Loads (Lists number (record { rows = listing.rows; waiting = listing.waiting; part = listing.part ++ page })))) ≡ false
     by true = listed-busy number (put_rows (listing.part ++ page) listing.rows) (put_containers (listing.part ++ page) (others_waiting listing))
     by false = refl
 
-judged-busy : (number : ℕ) (listing : Listing) (page : Option (List ObjectRow)) (held : Held) → page_taken number listing page ≡ Holds held → is_idle held ≡ false
+judged-busy : (number : ℕ) (listing : Listing) (page : Option (List ObjectRow)) (held : Held) → page_taken number listing page ≡ Goes held → is_idle held ≡ false
 judged-busy number listing None held e = absurd (cc)
 judged-busy number listing (Some page) held e = by (fits listing page) e
   where
-    by : (b : Bool) → cond b (Holds (after_page number listing page)) (Torn (listed_id listing)) ≡ Holds held → is_idle held ≡ false
+    by : (b : Bool) → cond b (Goes (after_page number listing page)) (Tears (listed_id listing)) ≡ Goes held → is_idle held ≡ false
     by true k = busy-by (after_page number listing page) held k (page-busy number listing page)
     by false k = absurd (cc)
 
-root-busy : (number : ℕ) (rows : List ObjectRow) (held : Held) → root_taken number rows ≡ Holds held → is_idle held ≡ false
+root-busy : (number : ℕ) (rows : List ObjectRow) (held : Held) → root_taken number rows ≡ Goes held → is_idle held ≡ false
 root-busy number [] held e = absurd (cc)
 root-busy number (row ∷ next ∷ rows) held e = absurd (cc)
 root-busy number (row ∷ []) held e = by (nat_eq row.id 0 && is_folder row.content) e
   where
-    by : (b : Bool) → cond b (Holds (HasRoot number row)) (Torn 0) ≡ Holds held → is_idle held ≡ false
-    by true k = busy-by (HasRoot number row) held k refl
+    by : (b : Bool) → cond b (Goes (Loads (HasRoot number row))) (Tears 0) ≡ Goes held → is_idle held ≡ false
+    by true k = busy-by (Loads (HasRoot number row)) held k refl
     by false k = absurd (cc)
 
-taken-busy : (before held : Held) (shown : Shown) → taken before shown ≡ Holds held → is_idle held ≡ false
+taken-busy : (before held : Held) (shown : Shown) → taken before shown ≡ Goes held → is_idle held ≡ false
 taken-busy Idle held shown e = absurd (cc)
-taken-busy Begun held (Text token) e = busy-by HasToken held e refl
-taken-busy Begun held (Number n) e = absurd (cc)
-taken-busy Begun held (Page rows total update) e = absurd (cc)
-taken-busy Begun held (Fault code) e = absurd (cc)
-taken-busy HasToken held (Text token) e = absurd (cc)
-taken-busy HasToken held (Number n) e = busy-by (HasNumber n) held e refl
-taken-busy HasToken held (Page rows total update) e = absurd (cc)
-taken-busy HasToken held (Fault code) e = absurd (cc)
-taken-busy (HasNumber number) held (Text token) e = absurd (cc)
-taken-busy (HasNumber number) held (Number n) e = absurd (cc)
-taken-busy (HasNumber number) held (Page rows total update) e = root-busy number rows held e
-taken-busy (HasNumber number) held (Fault code) e = absurd (cc)
-taken-busy (HasRoot number root) held (Text token) e = absurd (cc)
-taken-busy (HasRoot number root) held (Number n) e = busy-by (cond (nat_eq n number) (Lists number (listing_of root)) Begun) held e (by (nat_eq n number))
+taken-busy (Loads Begun) held (Text token) e = busy-by (Loads HasToken) held e refl
+taken-busy (Loads Begun) held (Number n) e = absurd (cc)
+taken-busy (Loads Begun) held (Page rows total update) e = absurd (cc)
+taken-busy (Loads Begun) held (Fault code) e = absurd (cc)
+taken-busy (Loads HasToken) held (Text token) e = absurd (cc)
+taken-busy (Loads HasToken) held (Number n) e = busy-by (Loads (HasNumber n)) held e refl
+taken-busy (Loads HasToken) held (Page rows total update) e = absurd (cc)
+taken-busy (Loads HasToken) held (Fault code) e = absurd (cc)
+taken-busy (Loads (HasNumber number)) held (Text token) e = absurd (cc)
+taken-busy (Loads (HasNumber number)) held (Number n) e = absurd (cc)
+taken-busy (Loads (HasNumber number)) held (Page rows total update) e = root-busy number rows held e
+taken-busy (Loads (HasNumber number)) held (Fault code) e = absurd (cc)
+taken-busy (Loads (HasRoot number root)) held (Text token) e = absurd (cc)
+taken-busy (Loads (HasRoot number root)) held (Number n) e = busy-by (cond (nat_eq n number) (Loads (Lists number (listing_of root))) (Loads Begun)) held e (by (nat_eq n number))
   where
-    by : (b : Bool) → is_idle (cond b (Lists number (listing_of root)) Begun) ≡ false
+    by : (b : Bool) → is_idle (cond b (Loads (Lists number (listing_of root))) (Loads Begun)) ≡ false
     by true = refl
     by false = refl
-taken-busy (HasRoot number root) held (Page rows total update) e = absurd (cc)
-taken-busy (HasRoot number root) held (Fault code) e = absurd (cc)
-taken-busy (Lists number listing) held (Text token) e = absurd (cc)
-taken-busy (Lists number listing) held (Number n) e = absurd (cc)
-taken-busy (Lists number listing) held (Page rows total update) e = busy-by (HasPage number listing (Some rows)) held e refl
-taken-busy (Lists number listing) held (Fault code) e = busy-by (HasPage number listing None) held e refl
-taken-busy (HasPage number listing page) held (Text token) e = absurd (cc)
-taken-busy (HasPage number listing page) held (Number n) e = by (nat_eq n number) e
+taken-busy (Loads (HasRoot number root)) held (Page rows total update) e = absurd (cc)
+taken-busy (Loads (HasRoot number root)) held (Fault code) e = absurd (cc)
+taken-busy (Loads (Lists number listing)) held (Text token) e = absurd (cc)
+taken-busy (Loads (Lists number listing)) held (Number n) e = absurd (cc)
+taken-busy (Loads (Lists number listing)) held (Page rows total update) e = busy-by (Loads (HasPage number listing (Some rows))) held e refl
+taken-busy (Loads (Lists number listing)) held (Fault code) e = busy-by (Loads (HasPage number listing None)) held e refl
+taken-busy (Loads (HasPage number listing page)) held (Text token) e = absurd (cc)
+taken-busy (Loads (HasPage number listing page)) held (Number n) e = by (nat_eq n number) e
   where
-    by : (b : Bool) → cond b (page_taken number listing page) (Holds Begun) ≡ Holds held → is_idle held ≡ false
+    by : (b : Bool) → cond b (page_taken number listing page) (Goes (Loads Begun)) ≡ Goes held → is_idle held ≡ false
     by true k = judged-busy number listing page held k
-    by false k = busy-by Begun held k refl
-taken-busy (HasPage number listing page) held (Page rows total update) e = absurd (cc)
-taken-busy (HasPage number listing page) held (Fault code) e = absurd (cc)
+    by false k = busy-by (Loads Begun) held k refl
+taken-busy (Loads (HasPage number listing page)) held (Page rows total update) e = absurd (cc)
+taken-busy (Loads (HasPage number listing page)) held (Fault code) e = absurd (cc)
 taken-busy (HasCopy number rows) held shown e = absurd (cc)
 
-loaded-busy : (known now : Known) (held : Held) (shown : Shown) → loaded known (taken held shown) ≡ Knows now → is_idle now.held ≡ false
+loaded-busy : (known now : Known) (held : Held) (shown : Shown) → loaded known (taken held shown) ≡ Goes now → is_idle now.held ≡ false
 loaded-busy known now held shown e = by (taken held shown) refl e
   where
-    by : (t : Taken) → taken held shown ≡ t → loaded known t ≡ Knows now → is_idle now.held ≡ false
-    by Unreadable t k = absurd (cc)
-    by (Torn id) t k = absurd (cc)
-    by (Holds h) t k = on h t k
+    by : (t : Outcome Held) → taken held shown ≡ t → loaded known t ≡ Goes now → is_idle now.held ≡ false
+    by CannotBeRead t k = absurd (cc)
+    by (Jumps expected first) t k = absurd (cc)
+    by (Tears id) t k = absurd (cc)
+    by (Goes h) t k = on h t k
       where
-        plain : (g : Held) → is_idle g ≡ false → Knows (record known { held = g }) ≡ Knows now → is_idle now.held ≡ false
+        plain : (g : Held) → is_idle g ≡ false → Goes (record known { held = g }) ≡ Goes now → is_idle now.held ≡ false
         plain g free m = ap (λ (x : Known). is_idle x.held) (sym (knows-is (record known { held = g }) now m)) ∙ free
 
-        on : (g : Held) → taken held shown ≡ Holds g → loaded known (Holds g) ≡ Knows now → is_idle now.held ≡ false
+        on : (g : Held) → taken held shown ≡ Goes g → loaded known (Goes g) ≡ Goes now → is_idle now.held ≡ false
         on Idle t m = absurd (true≢false (taken-busy held Idle shown t))
-        on Begun t m = plain Begun refl m
-        on HasToken t m = plain HasToken refl m
-        on (HasNumber number) t m = plain (HasNumber number) refl m
-        on (HasRoot number root) t m = plain (HasRoot number root) refl m
-        on (Lists number listing) t m = plain (Lists number listing) refl m
-        on (HasPage number listing page) t m = plain (HasPage number listing page) refl m
+        on (Loads stage) t m = plain (Loads stage) refl m
         on (HasCopy number rows) t m =
             ap is_idle (counted-stays rows (record { held = HasCopy number rows; base = number; last_note = known.last_note; kept = []; happenings = [] }) now number (changes_above number known.kept) m).0
 
-copy-busy : (known now : Known) (rows : List ObjectRow) (o : Option ℕ) (shown : Shown) → is_idle known.held ≡ false → copy_read known rows o shown ≡ Knows now → is_idle now.held ≡ false
+copy-busy : (known now : Known) (rows : List ObjectRow) (o : Option ℕ) (shown : Shown) → is_idle known.held ≡ false → copy_read known rows o shown ≡ Goes now → is_idle now.held ≡ false
 copy-busy known now rows None shown busy e = absurd (cc)
 copy-busy known now rows (Some id) (Text token) busy e = absurd (cc)
 copy-busy known now rows (Some id) (Number other) busy e = absurd (cc)
 copy-busy known now rows (Some id) (Fault code) busy e = ap (λ (x : Known). is_idle x.held) (sym (knows-is known now e)) ∙ busy
 copy-busy known now rows (Some id) (Page shown total update) busy e = on shown e
   where
-    on : (page : List ObjectRow) → row_read known rows id page ≡ Knows now → is_idle now.held ≡ false
+    on : (page : List ObjectRow) → row_read known rows id page ≡ Goes now → is_idle now.held ≡ false
     on [] k = absurd (cc)
     on (row ∷ next ∷ others) k = absurd (cc)
     on (row ∷ []) k = by (is_of id row (known_of id (rows_after rows known.happenings))) k
@@ -152,34 +144,29 @@ copy-busy known now rows (Some id) (Page shown total update) busy e = on shown e
         made : Known
         made = record known { happenings = Reads id (record { content = row.content; object_update = row.object_update }) ∷ known.happenings }
 
-        by : (b : Bool) → cond b (Knows made) (Tears id) ≡ Knows now → is_idle now.held ≡ false
+        by : (b : Bool) → cond b (Goes made) (Tears id) ≡ Goes now → is_idle now.held ≡ false
         by true f = ap (λ (x : Known). is_idle x.held) (sym (knows-is made now f)) ∙ busy
         by false f = absurd (cc)
 
-reply-busy : (known : Known) (shown : Shown) → is_idle known.held ≡ false → is_idle (known_after known (with_reply known known.held shown)).held ≡ false
+reply-busy : (known : Known) (shown : Shown) → is_idle known.held ≡ false → is_idle (after_outcome known (with_reply known known.held shown)).held ≡ false
 reply-busy known shown busy = by (with_reply known known.held shown) refl
   where
-    on : (held : Held) (now : Known) → with_reply known held shown ≡ Knows now → is_idle now.held ≡ false
+    on : (held : Held) (now : Known) → with_reply known held shown ≡ Goes now → is_idle now.held ≡ false
     on Idle now e = absurd (cc)
-    on Begun now e = loaded-busy known now Begun shown e
-    on HasToken now e = loaded-busy known now HasToken shown e
-    on (HasNumber number) now e = loaded-busy known now (HasNumber number) shown e
-    on (HasRoot number root) now e = loaded-busy known now (HasRoot number root) shown e
-    on (Lists number listing) now e = loaded-busy known now (Lists number listing) shown e
-    on (HasPage number listing page) now e = loaded-busy known now (HasPage number listing page) shown e
+    on (Loads stage) now e = loaded-busy known now (Loads stage) shown e
     on (HasCopy number rows) now e = copy-busy known now rows (least_unread known.happenings) shown busy e
 
-    by : (o : Outcome) → with_reply known known.held shown ≡ o → is_idle (known_after known o).held ≡ false
-    by (Knows now) e = on known.held now e
+    by : (o : Outcome Known) → with_reply known known.held shown ≡ o → is_idle (after_outcome known o).held ≡ false
+    by (Goes now) e = on known.held now e
     by CannotBeRead e = busy
     by (Jumps expected first) e = busy
     by (Tears id) e = busy
 
-notes-busy : (notes : List Note) (known : Known) → is_drop (position known) notes || not (is_idle known.held) ≡ true → is_idle (known_after known (with_notes notes known)).held ≡ false
+notes-busy : (notes : List Note) (known : Known) → is_drop (position known) notes || not (is_idle known.held) ≡ true → is_idle (after_outcome known (with_notes notes known)).held ≡ false
 notes-busy notes known either = by (is_drop (position known) notes) refl either
   where
-    after : (o : Outcome) (held : Held) → is_idle held ≡ false → ((now : Known) → o ≡ Knows now → now.held ≡ held) → is_idle known.held ≡ false → is_idle (known_after known o).held ≡ false
-    after (Knows now) held busy is was = ap is_idle (is now refl) ∙ busy
+    after : (o : Outcome Known) (held : Held) → is_idle held ≡ false → ((now : Known) → o ≡ Goes now → now.held ≡ held) → is_idle known.held ≡ false → is_idle (after_outcome known o).held ≡ false
+    after (Goes now) held busy is was = ap is_idle (is now refl) ∙ busy
     after CannotBeRead held busy is was = was
     after (Jumps expected first) held busy is was = was
     after (Tears id) held busy is was = was
@@ -188,11 +175,11 @@ notes-busy notes known either = by (is_drop (position known) notes) refl either
     not-true true e = absurd (true≢false (sym e))
     not-true false e = refl
 
-    by : (b : Bool) → is_drop (position known) notes ≡ b → b || not (is_idle known.held) ≡ true → is_idle (known_after known (with_notes notes known)).held ≡ false
+    by : (b : Bool) → is_drop (position known) notes ≡ b → b || not (is_idle known.held) ≡ true → is_idle (after_outcome known (with_notes notes known)).held ≡ false
     by true d e =
-        let is : with_notes notes known ≡ heard_of notes (with_changes Begun (load_begun known) (position known) (new_changes (position known) notes)) =
+        let is : with_notes notes known ≡ heard_of notes (with_changes (Loads Begun) (load_begun known) (position known) (new_changes (position known) notes)) =
         (λ i. heard_of notes (with_changes (cond (d i) (load_begun known) known).held (cond (d i) (load_begun known) known) (position known) (new_changes (position known) notes))) in
-        ap (λ (o : Outcome). is_idle (known_after known o).held) is
+        ap (λ (o : Outcome Known). is_idle (after_outcome known o).held) is
     by false d e =
         after (with_notes notes known) known.held (not-true (is_idle known.held) e)
         (λ now k. (notes-leave notes known now k).0 ∙ (λ i. (cond (d i) (load_begun known) known).held)) (not-true (is_idle known.held) e)
@@ -298,12 +285,7 @@ module _ (token : List ℕ) (first : ℕ) (commands : List Command) (given-accep
 
       by : (held : Held) → is_idle held ≡ false → ask_of (known_by turns) held ≡ None → Stage token first commands k held (known_by turns) → says_without_gap (known_by turns) held ≡ Stands end
       by Idle b e stage = absurd (true≢false b)
-      by Begun b e stage = absurd (cc)
-      by HasToken b e stage = absurd (cc)
-      by (HasNumber number) b e stage = absurd (cc)
-      by (HasRoot number root) b e stage = absurd (cc)
-      by (Lists number listing) b e stage = absurd (cc)
-      by (HasPage number listing page) b e stage = absurd (cc)
+      by (Loads load) b e stage = absurd (cc)
       by (HasCopy number rows) b e stage = copy-on number rows stage (least_unread (known_by turns).happenings) e
 
 both-hold : (a b : Bool) → a && b ≡ true → (a ≡ true) × (b ≡ true)

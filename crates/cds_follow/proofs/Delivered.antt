@@ -9,16 +9,17 @@ use Rattle.cds_commands.specs.Commands.{Command, oldest, AreAccepted}
 use Rattle.cds_commands.specs.Notes.{Note, notes_of}
 use Rattle.cds_commands.specs.Subscriptions.{granted}
 use Rattle.cds_follow.specs.Inbox.{ReplicaTurn, Shows, Accepts, Delivers, is_out, accepted as accepted_name, is_accepted, is_early, early_notes, received, has_seq, next_seq, held_notes, held_limit, Arrival, IsUnknown, IsRepeat, IsTooMany, IsEarly, IsHeld, IsNext, is_repeat, is_next, arrival}
-use Rattle.cds_follow.specs.Follow.{known_by, is_no, is_turned_away, is_refused, and_turn, next_ask}
+use Rattle.cds_follow.specs.Follow.{known_by, is_turned_away, is_refused, and_turn, next_ask}
 use Rattle.cds_follow.specs.Given.{moment_after, Entry, Starts, Asks, Calls, Granted, Denied, Gets, asked_at, given_by, latest_length, length_before_call, IsGiven}
 use Rattle.cds_follow.specs.HonestLaws.{delivered_notes_are_received}
 use Rattle.cds_commands.proofs.Among.{Among, among-all, among-filter, among-contained}
 use Rattle.cds_commands.proofs.Sent.{Sound, all-sound, granted-more}
 use Rattle.cds_follow.proofs.Honest.{entry-taken}
+use Rattle.cds_load.specs.Outcome.{is_no}
 
 -- ---- names that were granted within fewer commands
 
-granted-drop : (n : ℕ) (commands : List Command) → granted (drop n commands) ≤ granted commands
+pub granted-drop : (n : ℕ) (commands : List Command) → granted (drop n commands) ≤ granted commands
 granted-drop zero commands = omega arith
 granted-drop (suc n) [] = omega arith
 granted-drop (suc n) (command ∷ older) = let r = granted-drop n older in let m = granted-more command older in omega (arith, r, m)

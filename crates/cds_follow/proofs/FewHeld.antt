@@ -4,12 +4,13 @@ use Rattle.std.specs.List.{list_any}
 use Rattle.std.specs.Option.{option_eq}
 use Rattle.cds_commands.specs.Notes.{Note}
 use Rattle.cds_follow.specs.Inbox.{ReplicaTurn, Begins, Shows, Requests, Accepts, Refuses, Delivers, is_out, accepted, is_accepted, early_notes, received, has_seq, least_outside, next_seq, is_same_note, different, waiting_notes, held_notes, held_limit, IsUnknown, IsRepeat, IsTooMany, IsEarly, IsHeld, IsNext, is_repeat, is_next, arrival, taken_by}
-use Rattle.cds_follow.specs.Follow.{is_turned_away, is_no, with_notes, known_by}
+use Rattle.cds_follow.specs.Follow.{is_turned_away, with_notes, known_by}
 use Rattle.cds_follow.specs.KnownLaws.{at_most_64_are_held}
 use Rattle.cds_commands.proofs.Among.{Among, filter-among}
 use Rattle.cds_commands.proofs.Chain.{note-among}
 use Rattle.cds_follow.proofs.Taken.{has-note}
 use Rattle.cds_follow.proofs.TakenOnce.{rises}
+use Rattle.cds_load.specs.Outcome.{is_no}
 
 -- ---- different notes
 

@@ -11,7 +11,7 @@ use Rattle.cds_catalog.proofs.StepsFind.{none≢some}
 use Rattle.cds_load.specs.declared.exchange.Ask.{Ask}
 use Rattle.cds_load.specs.declared.exchange.Ask.TheVariants.{Metadata}
 use Rattle.cds_load.specs.Server.{Moment, reply_to, metadata_reply}
-use Rattle.cds_load.specs.Stages.{Held, Idle, Begun, HasToken, HasNumber, HasRoot, Lists, HasPage, HasCopy, Taken, Holds, taken, next_ask as load_ask}
+use Rattle.cds_load.specs.Stages.{Held, Idle, Begun, HasCopy, taken, next_ask as load_ask, Loads}
 use Rattle.cds_load.proofs.Trees.{found-id}
 use Rattle.cds_load.proofs.Honest.{IsGiven}
 use Rattle.cds_load.proofs.Replies.{reply-given}
@@ -20,7 +20,7 @@ use Rattle.cds_changes.proofs.Told.{spans-tell}
 use Rattle.cds_commands.specs.Commands.{Command, scans_of, AreAccepted, oldest}
 use Rattle.cds_commands.specs.Notes.{Note, changes_above, told_between}
 use Rattle.cds_follow.specs.Copy.{Happening, Reads, rows_after, known_of, least_unread}
-use Rattle.cds_follow.specs.Follow.{Known, position, Outcome, Knows, Jumps, Tears, first_torn, judged, counted_from, with_changes, load_begun, new_changes, greatest_of, heard_of, with_notes, load_ended, loaded, is_of, object_read, copy_read, with_reply, ask_of, next_ask}
+use Rattle.cds_follow.specs.Follow.{Known, position, first_torn, judged, counted_from, with_changes, load_begun, new_changes, greatest_of, heard_of, with_notes, load_ended, loaded, is_of, object_read, copy_read, with_reply, ask_of, next_ask}
 use Rattle.cds_follow.specs.ServerLaws.{served, befalling}
 use Rattle.cds_commands.proofs.Spanned.{above-changes, none-told, told-join}
 use Rattle.cds_follow.proofs.Served.{serves, one-id}
@@ -30,10 +30,11 @@ use Rattle.cds_follow.proofs.Copies.{known-like}
 use Rattle.cds_follow.proofs.CopyOf.{IsCopy, copy-begins, copy-goes, copy-reads, least-is-unread, unread-known}
 use Rattle.cds_follow.proofs.Stages.{Bounds, taken-bounds, reply-number, greatest-least, greatest-max, Past, IsLoading, Stage, IsFollowing, AreNext, AreTaken, past-low}
 use Rattle.cds_object.specs.Events.{update_of}
+use Rattle.cds_load.specs.Outcome.{Outcome, Goes, Jumps, Tears}
 
 -- what becomes of a note or a reply: it is taken, and what is known then follows the server
-abbrev pub Follows : List ℕ → ℕ → List Command → ℕ → Outcome → Type 0
-Follows token first commands k outcome = (now : Known) × (outcome ≡ Knows now) × IsFollowing token first commands k now
+abbrev pub Follows : List ℕ → ℕ → List Command → ℕ → Outcome Known → Type 0
+Follows token first commands k outcome = (now : Known) × (outcome ≡ Goes now) × IsFollowing token first commands k now
 
 module _ (token : List ℕ) (first : ℕ) (commands : List Command) (accepted : AreAccepted first commands) where
   abbrev told : ℕ → ℕ → List Event
@@ -74,7 +75,7 @@ module _ (token : List ℕ) (first : ℕ) (commands : List Command) (accepted : 
   -- changes that go on from a copy's position are counted on it
   counted : (k base : ℕ) (rows : List ObjectRow) (happenings : List Happening) (at j : ℕ) (known : Known) → j ≤ k
       → IsCopy token first commands k base rows happenings at → at ≤ (served token first commands j).number → known.happenings ≡ happenings
-      → (now : List Happening) × (counted_from rows known at (told at (served token first commands j).number) ≡ Knows (record known { happenings = now }))
+      → (now : List Happening) × (counted_from rows known at (told at (served token first commands j).number) ≡ Goes (record known { happenings = now }))
       × IsCopy token first commands k base rows now (served token first commands j).number
   counted k base rows happenings at j known l copy ahead same =
       let goes = copy-goes token first commands accepted k base rows happenings at j l copy ahead in
@@ -85,9 +86,9 @@ module _ (token : List ℕ) (first : ℕ) (commands : List Command) (accepted : 
 
       by : (events : List Event) → told at (served token first commands j).number ≡ events → first_torn (rows_after rows happenings) events ≡ None
           → IsCopy token first commands k base rows (befalling events ++ happenings) (served token first commands j).number
-          → (now : List Happening) × (counted_from rows known at events ≡ Knows (record known { happenings = now }))
+          → (now : List Happening) × (counted_from rows known at events ≡ Goes (record known { happenings = now }))
           × IsCopy token first commands k base rows now (served token first commands j).number
-      by [] e none goes = (happenings, (λ i. Knows (record known { happenings = same i })), goes)
+      by [] e none goes = (happenings, (λ i. Goes (record known { happenings = same i })), goes)
       by (event ∷ events) e none goes =
           let first-one : update_of event ≡ at + 1 =
           starts copy.at j event events (let h = here in let a = ahead in omega (arith, h, a)) (ap (λ (n : ℕ). told n (served token first commands j).number) (sym here) ∙ e)
@@ -95,7 +96,7 @@ module _ (token : List ℕ) (first : ℕ) (commands : List Command) (accepted : 
             befalling (event ∷ events) ++ happenings,
             (λ i. cond (eq-eqb (update_of event) (at + 1) first-one i) (judged known (event ∷ events) (first_torn (rows_after rows known.happenings) (event ∷ events))) (Jumps (at + 1) (update_of event)))
                 ∙ ap (judged known (event ∷ events)) (ap (λ (hs : List Happening). first_torn (rows_after rows hs) (event ∷ events)) same ∙ none)
-                ∙ (λ i. Knows (record known { happenings = befalling (event ∷ events) ++ same i })),
+                ∙ (λ i. Goes (record known { happenings = befalling (event ∷ events) ++ same i })),
             goes,
           )
 
@@ -166,7 +167,7 @@ module _ (token : List ℕ) (first : ℕ) (commands : List Command) (accepted : 
       kept : Known
       kept = record known { kept = known.kept ++ new; last_note = greatest_of known.last_note notes }
 
-      loading : (held : Held) → known.held ≡ held → IsGiven (StoodAt (served token first commands) k) held → Stage token first commands k held kept → Follows token first commands k (Knows kept)
+      loading : (held : Held) → known.held ≡ held → IsGiven (StoodAt (served token first commands) k) held → Stage token first commands k held kept → Follows token first commands k (Goes kept)
       loading held same given stage = (
         kept,
         refl,
@@ -188,12 +189,7 @@ module _ (token : List ℕ) (first : ℕ) (commands : List Command) (accepted : 
           stage = subst (λ (h : Held). Stage token first commands k h (record known { last_note = greatest_of known.last_note notes })) (sym same) tt;
         },
       )
-      by Begun same given stage = loading Begun same given (keeps-on k Begun known notes next stage)
-      by HasToken same given stage = loading HasToken same given (keeps-on k HasToken known notes next stage)
-      by (HasNumber number) same given stage = loading (HasNumber number) same given (keeps-on k (HasNumber number) known notes next stage)
-      by (HasRoot number root) same given stage = loading (HasRoot number root) same given (keeps-on k (HasRoot number root) known notes next stage)
-      by (Lists number listing) same given stage = loading (Lists number listing) same given (keeps-on k (Lists number listing) known notes next stage)
-      by (HasPage number listing page) same given stage = loading (HasPage number listing page) same given (keeps-on k (HasPage number listing page) known notes next stage)
+      by (Loads load) same given stage = loading (Loads load) same given (keeps-on k (Loads load) known notes next stage)
       by (HasCopy number rows) same given stage = on (there (greatest-past k (position known) notes f.past next))
         where
           copy : IsCopy token first commands k number rows known.happenings (position known)
@@ -227,7 +223,7 @@ module _ (token : List ℕ) (first : ℕ) (commands : List Command) (accepted : 
   -- a first note above the position, and those that go on from it
   drop-follows : (k : ℕ) (known : Known) (note : Note) (rest : List Note) → IsFollowing token first commands k known → note.events ≡ [] → position known < note.number
       → ((j : ℕ) × (j ≤ k) × (note.number ≡ (served token first commands j).number)) → AreNext token first commands k note.number rest
-      → Follows token first commands k (heard_of (note ∷ rest) (with_changes Begun (load_begun known) (position known) (new_changes (position known) (note ∷ rest))))
+      → Follows token first commands k (heard_of (note ∷ rest) (with_changes (Loads Begun) (load_begun known) (position known) (new_changes (position known) (note ∷ rest))))
   drop-follows k known note rest f none above stood next = (
     now,
     refl,
@@ -335,7 +331,7 @@ module _ (token : List ℕ) (first : ℕ) (commands : List Command) (accepted : 
       let most = past-low token first commands accepted k (position known) f.past in
       let bounds = taken-bounds loading.from (served token first commands k).number held t.0 (reply_to (served token first commands k) ask) (omega (arith, low, most))
       (λ n e. let is = reply-number (served token first commands k) ask n e in omega (arith, low, most, is)) loading.bounds t.1 in
-      subst (λ (x : Taken). Follows token first commands k (loaded known x)) (sym t.1) (by t.0 t.2 bounds)
+      subst (λ (x : Outcome Held). Follows token first commands k (loaded known x)) (sym t.1) (by t.0 t.2 bounds)
     where
       still : (now : Held) → Bounds loading.from (served token first commands k).number now → IsLoading token first commands k now (record known { held = now })
       still now bounds = record {
@@ -346,14 +342,9 @@ module _ (token : List ℕ) (first : ℕ) (commands : List Command) (accepted : 
         kept = loading.kept;
       }
 
-      by : (now : Held) → IsGiven (StoodAt (served token first commands) k) now → Bounds loading.from (served token first commands k).number now → Follows token first commands k (loaded known (Holds now))
+      by : (now : Held) → IsGiven (StoodAt (served token first commands) k) now → Bounds loading.from (served token first commands k).number now → Follows token first commands k (loaded known (Goes now))
       by Idle g b = (record known { held = Idle }, refl, record { given = g; past = f.past; stage = tt })
-      by Begun g b = (record known { held = Begun }, refl, record { given = g; past = f.past; stage = still Begun b })
-      by HasToken g b = (record known { held = HasToken }, refl, record { given = g; past = f.past; stage = still HasToken b })
-      by (HasNumber number) g b = (record known { held = HasNumber number }, refl, record { given = g; past = f.past; stage = still (HasNumber number) b })
-      by (HasRoot number root) g b = (record known { held = HasRoot number root }, refl, record { given = g; past = f.past; stage = still (HasRoot number root) b })
-      by (Lists number listing) g b = (record known { held = Lists number listing }, refl, record { given = g; past = f.past; stage = still (Lists number listing) b })
-      by (HasPage number listing page) g b = (record known { held = HasPage number listing page }, refl, record { given = g; past = f.past; stage = still (HasPage number listing page) b })
+      by (Loads stage) g b = (record known { held = Loads stage }, refl, record { given = g; past = f.past; stage = still (Loads stage) b })
       by (HasCopy number rows) g b = ended-follows k known number rows f.past g loading.from b loading.after-base loading.kept
 
   -- a reply to a read of an unread object
@@ -383,7 +374,7 @@ module _ (token : List ℕ) (first : ℕ) (commands : List Command) (accepted : 
           ∙ (λ i. eq-eqb row.id id (found-id id (served token first commands k).rows row e) i && kinds (is_folder row.content) there.0.folder kind i) in
           let now : Known = record known { happenings = Reads id (record { content = row.content; object_update = row.object_update }) ∷ known.happenings } in (
             now,
-            (λ i. cond (is i) (Knows now) (Tears id)),
+            (λ i. cond (is i) (Goes now) (Tears id)),
             record {
               given = subst (IsGiven (StoodAt (served token first commands) k)) (sym same) given;
               past = f.past;
@@ -400,12 +391,7 @@ module _ (token : List ℕ) (first : ℕ) (commands : List Command) (accepted : 
       by : (held : Held) → known.held ≡ held → IsGiven (StoodAt (served token first commands) k) held → Stage token first commands k held known → ask_of known held ≡ Some ask
           → Follows token first commands k (with_reply known held (reply_to (served token first commands k) ask))
       by Idle same given stage a = none≢some None ask refl a
-      by Begun same given stage a = load-follows k Begun known ask f stage given a
-      by HasToken same given stage a = load-follows k HasToken known ask f stage given a
-      by (HasNumber number) same given stage a = load-follows k (HasNumber number) known ask f stage given a
-      by (HasRoot number root) same given stage a = load-follows k (HasRoot number root) known ask f stage given a
-      by (Lists number listing) same given stage a = load-follows k (Lists number listing) known ask f stage given a
-      by (HasPage number listing page) same given stage a = load-follows k (HasPage number listing page) known ask f stage given a
+      by (Loads load) same given stage a = load-follows k (Loads load) known ask f stage given a
       by (HasCopy number rows) same given stage a = on (least_unread known.happenings) refl a
         where
           on : (o : Option ℕ) → least_unread known.happenings ≡ o → option_map (λ (id : ℕ). Metadata id) o ≡ Some ask

@@ -7,12 +7,12 @@ use Rattle.cds_catalog.specs.History.{end_of}
 use Rattle.cds_catalog.specs.Catalog.{catalog}
 use Rattle.cds_load.specs.declared.exchange.Ask.{Ask}
 use Rattle.cds_load.specs.Server.{reply_to}
-use Rattle.cds_load.specs.Stages.{Held, Idle, Begun, HasToken, HasNumber, HasRoot, Lists, HasPage, HasCopy}
+use Rattle.cds_load.specs.Stages.{Held, Idle, HasCopy, Loads}
 use Rattle.cds_commands.specs.Commands.{Command, scans_of, oldest, AreAccepted}
 use Rattle.cds_commands.specs.Notes.{Note, notes_of, note_of, notes_from_to}
 use Rattle.cds_follow.specs.Copy.{least_unread, read_up_to}
 use Rattle.cds_follow.specs.Inbox.{ReplicaTurn, Shows, Accepts, Delivers, accepted as accepted_name, is_accepted, is_early, early_notes, received, least_outside, next_seq, missing, taken_by, arrival}
-use Rattle.cds_follow.specs.Follow.{Known, position, greatest_of, with_notes, known_after, known_by, is_no, is_turned_away, is_refused, and_turn, next_ask, copy_says, says_without_gap, says_of, says, rows_held, copied}
+use Rattle.cds_follow.specs.Follow.{Known, position, greatest_of, with_notes, known_by, is_turned_away, is_refused, and_turn, next_ask, copy_says, says_without_gap, says_of, says, rows_held, copied}
 use Rattle.cds_follow.specs.Given.{moment_after, Entry, Starts, Asks, Calls, Granted, Denied, Gets, length_at, asked_at, given_by, latest_length, IsGiven}
 use Rattle.cds_follow.specs.HonestLaws.{IsTaken, honest_calls_are_taken, honest_copies_stood}
 use Rattle.cds_follow.specs.ServerLaws.{served}
@@ -26,6 +26,7 @@ use Rattle.cds_follow.proofs.Following.{Follows, notes-follow, reply-follows}
 use Rattle.cds_follow.proofs.Taken.{IsSent, IsBefore, run-taken, run-heard, has-note}
 use Rattle.cds_commands.proofs.Fewer.{notes-later}
 use Rattle.cds_follow.proofs.Heard.{notes-heard, reply-heard}
+use Rattle.cds_load.specs.Outcome.{after_outcome, is_no}
 
 -- what a replica received of an honest server: notes that were sent, those of the accepted name; and those that were taken
 -- have no number above the greatest that it last_note
@@ -216,7 +217,7 @@ module _ (token : List ℕ) (first : ℕ) (commands : List Command) (accepted : 
   shows-served k turns ask s asks =
       let r = reply-follows token first commands accepted k (known_by turns) ask s.following asks in
       and-served k (Shows (reply_to (served token first commands k) ask)) turns (ap is_no r.1)
-      (served-by k (Shows (reply_to (served token first commands k) ask) ∷ turns) r.0 (ap (known_after (known_by turns)) r.1) r.2
+      (served-by k (Shows (reply_to (served token first commands k) ask) ∷ turns) r.0 (ap (after_outcome (known_by turns)) r.1) r.2
       (subst (IsHearing first commands k (Shows (reply_to (served token first commands k) ask) ∷ turns))
       (sym (reply-heard (known_by turns) r.0 (known_by turns).held (reply_to (served token first commands k) ask) r.1))
       (record { sent = s.hearing.sent; early = s.hearing.early; last = s.hearing.last })))
@@ -225,7 +226,7 @@ module _ (token : List ℕ) (first : ℕ) (commands : List Command) (accepted : 
   accepts-served k turns name s =
       let r = notes-follow token first commands accepted k (known_by turns) (taken_by (Accepts name) turns) s.following (accepted-taken k turns name s.hearing) in
       and-served k (Accepts name) turns (ap is_no r.1)
-      (served-by k (Accepts name ∷ turns) r.0 (ap (known_after (known_by turns)) r.1) r.2
+      (served-by k (Accepts name ∷ turns) r.0 (ap (after_outcome (known_by turns)) r.1) r.2
       (accepted-hearing k turns name s.hearing r.0.last_note (notes-heard (taken_by (Accepts name) turns) (known_by turns) r.0 r.1)))
 
   delivers-served : (k : ℕ) (turns : List ReplicaTurn) (note : Note) → Among note (notes_of first (oldest k commands)) → IsServed k turns
@@ -240,7 +241,7 @@ module _ (token : List ℕ) (first : ℕ) (commands : List Command) (accepted : 
           subst (IsServed k) (λ i. cond (sym e i || is_no (with_notes (taken_by (Delivers note) turns) (known_by turns))) turns (Delivers note ∷ turns)) s
       by false e =
           and-served k (Delivers note) turns (λ i. e i || is_no (r.1 i))
-          (served-by k (Delivers note ∷ turns) r.0 (ap (known_after (known_by turns)) r.1) r.2
+          (served-by k (Delivers note ∷ turns) r.0 (ap (after_outcome (known_by turns)) r.1) r.2
           (delivered-hearing k turns note here s.following s.hearing r.0.last_note (notes-heard (taken_by (Delivers note) turns) (known_by turns) r.0 r.1)))
 
   nothing-served : IsServed 0 []
@@ -343,12 +344,7 @@ module _ (token : List ℕ) (first : ℕ) (commands : List Command) (accepted : 
 
       on : (held : Held) → Stage token first commands k held (known_by turns) → says_without_gap (known_by turns) held ≡ Stands number → Goal (rows_held held (known_by turns).happenings)
       on Idle stage e = absurd (cc)
-      on Begun stage e = absurd (cc)
-      on HasToken stage e = absurd (cc)
-      on (HasNumber n) stage e = absurd (cc)
-      on (HasRoot n root) stage e = absurd (cc)
-      on (Lists n listing) stage e = absurd (cc)
-      on (HasPage n listing page) stage e = absurd (cc)
+      on (Loads load) stage e = absurd (cc)
       on (HasCopy n rows) stage e = copy-on n rows stage (least_unread (known_by turns).happenings) refl e
 
       by : (o : Option ℕ) → says_of o (known_by turns) ≡ Stands number → Goal (copied (known_by turns))

@@ -1,3 +1,4 @@
+pub mod ByReplies
 pub mod Came
 pub mod Complete
 pub mod Copies
@@ -10,6 +11,7 @@ pub mod Following
 pub mod Happened
 pub mod Heard
 pub mod Honest
+pub mod InOrder
 pub mod Kept
 pub mod Leads
 pub mod LeadsSpan
@@ -17,6 +19,7 @@ pub mod Like
 pub mod LoadCounts
 pub mod LoadTurns
 pub mod Named
+pub mod NamedIn
 pub mod Position
 pub mod PossibleTurns
 pub mod Premises

@@ -12,11 +12,12 @@ use Rattle.cds_load.specs.declared.exchange.Shown.{Shown}
 use Rattle.cds_load.specs.declared.exchange.Shown.TheVariants.{Text, Number, Page, Fault}
 use Rattle.cds_load.specs.Seen.{rows_shown}
 use Rattle.cds_load.specs.Attempts.{ShowsRows}
-use Rattle.cds_load.specs.Stages.{Waiting, Held, Idle, Begun, HasToken, HasNumber, HasRoot, Lists, HasPage, HasCopy, Holds, Torn, put_by, puts_by, put_rows, waiting_of, put_containers, listing_of, listed_id, all_new, fits, listed, after_page, root_taken, page_taken, taken, held_after, ReplicaTurn as LoadTurn, Begins as LoadBegins, Shows as LoadShows, held_by}
+use Rattle.cds_load.specs.Stages.{Waiting, Held, Idle, Begun, HasToken, HasNumber, HasRoot, Lists, HasPage, HasCopy, put_by, puts_by, put_rows, waiting_of, put_containers, listing_of, listed_id, all_new, fits, listed, after_page, root_taken, page_taken, taken, ReplicaTurn as LoadTurn, Begins as LoadBegins, Shows as LoadShows, held_by, Loads}
 use Rattle.cds_load.proofs.Placed.{sum-puts, count-none, count-all}
 use Rattle.cds_follow.specs.Copy.{known_row, knows}
 use Rattle.cds_commands.proofs.Among.{Among, all-among, among-left, among-right, among-append}
 use Rattle.cds_follow.proofs.Tracked.{AreDistinct, is_kid, kids, AreCounted}
+use Rattle.cds_load.specs.Outcome.{Goes, Tears, after_outcome}
 
 -- ---- items with keys that differ
 
@@ -372,12 +373,12 @@ InList rows (w ∷ ws) part = IsListing rows (w ∷ ws) × IsPart rows w.id part
 
 abbrev InHeld : Held → Type 0
 InHeld Idle = Unit {0}
-InHeld Begun = Unit {0}
-InHeld HasToken = Unit {0}
-InHeld (HasNumber number) = Unit {0}
-InHeld (HasRoot number root) = IsRow root × (root.id ≡ 0) × (is_folder root.content ≡ true)
-InHeld (Lists number l) = InList l.rows l.waiting l.part
-InHeld (HasPage number l page) = InList l.rows l.waiting l.part
+InHeld (Loads Begun) = Unit {0}
+InHeld (Loads HasToken) = Unit {0}
+InHeld (Loads (HasNumber number)) = Unit {0}
+InHeld (Loads (HasRoot number root)) = IsRow root × (root.id ≡ 0) × (is_folder root.content ≡ true)
+InHeld (Loads (Lists number l)) = InList l.rows l.waiting l.part
+InHeld (Loads (HasPage number l page)) = InList l.rows l.waiting l.part
 InHeld (HasCopy number rows) = IsListing rows []
 
 in-listed : (number : ℕ) (rows : List ObjectRow) (ws : List Waiting) → IsListing rows ws → InHeld (listed number rows ws)
@@ -395,7 +396,7 @@ in-page number rows (w ∷ ws) part page l e = by (nat_eq (length (part ++ page)
     more = page-part rows w ws part page l.1 e
 
     by : (b : Bool) → nat_eq (length (part ++ page)) w.children ≡ b
-        → InHeld (cond b (listed number (put_rows (part ++ page) rows) (put_containers (part ++ page) ws)) (Lists number (record { rows = rows; waiting = w ∷ ws; part = part ++ page })))
+        → InHeld (cond b (listed number (put_rows (part ++ page) rows) (put_containers (part ++ page) ws)) (Loads (Lists number (record { rows = rows; waiting = w ∷ ws; part = part ++ page }))))
     by true x = in-listed number (put_rows (part ++ page) rows) (put_containers (part ++ page) ws)
         (listed-whole rows w ws l.0 (part ++ page) more (eqb-true (length (part ++ page)) w.children x))
     by false x = (l.0, more)
@@ -437,58 +438,58 @@ in-root root r = by root.trackers refl
         settles row (inl s) = ap waiting_of s ∙ waits-of root t e
         settles row (inr a) = absurd a
 
-in-taken : (held : Held) (shown : Shown) → InHeld held → AllByRecursion IsRow (rows_shown shown) → InHeld (held_after held (taken held shown))
+in-taken : (held : Held) (shown : Shown) → InHeld held → AllByRecursion IsRow (rows_shown shown) → InHeld (after_outcome held (taken held shown))
 in-taken Idle shown h r = tt
-in-taken Begun (Text token) h r = tt
-in-taken Begun (Number n) h r = tt
-in-taken Begun (Page rows total update) h r = tt
-in-taken Begun (Fault code) h r = tt
-in-taken HasToken (Text token) h r = tt
-in-taken HasToken (Number n) h r = tt
-in-taken HasToken (Page rows total update) h r = tt
-in-taken HasToken (Fault code) h r = tt
-in-taken (HasNumber number) (Text token) h r = tt
-in-taken (HasNumber number) (Number n) h r = tt
-in-taken (HasNumber number) (Page rows total update) h r = on rows r
+in-taken (Loads Begun) (Text token) h r = tt
+in-taken (Loads Begun) (Number n) h r = tt
+in-taken (Loads Begun) (Page rows total update) h r = tt
+in-taken (Loads Begun) (Fault code) h r = tt
+in-taken (Loads HasToken) (Text token) h r = tt
+in-taken (Loads HasToken) (Number n) h r = tt
+in-taken (Loads HasToken) (Page rows total update) h r = tt
+in-taken (Loads HasToken) (Fault code) h r = tt
+in-taken (Loads (HasNumber number)) (Text token) h r = tt
+in-taken (Loads (HasNumber number)) (Number n) h r = tt
+in-taken (Loads (HasNumber number)) (Page rows total update) h r = on rows r
   where
-    on : (rows : List ObjectRow) → AllByRecursion IsRow rows → InHeld (held_after (HasNumber number) (root_taken number rows))
+    on : (rows : List ObjectRow) → AllByRecursion IsRow rows → InHeld (after_outcome (Loads (HasNumber number)) (root_taken number rows))
     on [] all = tt
     on (row ∷ next ∷ rows) all = tt
     on (row ∷ []) all = by (nat_eq row.id 0) (is_folder row.content) refl refl
       where
-        by : (a b : Bool) → nat_eq row.id 0 ≡ a → is_folder row.content ≡ b → InHeld (held_after (HasNumber number) (cond (a && b) (Holds (HasRoot number row)) (Torn 0)))
+        by : (a b : Bool) → nat_eq row.id 0 ≡ a → is_folder row.content ≡ b → InHeld (after_outcome (Loads (HasNumber number)) (cond (a && b) (Goes (Loads (HasRoot number row))) (Tears 0)))
         by true true e f = (all.0, eqb-true row.id 0 e, f)
         by true false e f = tt
         by false b e f = tt
-in-taken (HasNumber number) (Fault code) h r = tt
-in-taken (HasRoot number root) (Text token) h r = h
-in-taken (HasRoot number root) (Number n) h r = by (nat_eq n number)
+in-taken (Loads (HasNumber number)) (Fault code) h r = tt
+in-taken (Loads (HasRoot number root)) (Text token) h r = h
+in-taken (Loads (HasRoot number root)) (Number n) h r = by (nat_eq n number)
   where
-    by : (b : Bool) → InHeld (cond b (Lists number (listing_of root)) Begun)
+    by : (b : Bool) → InHeld (cond b (Loads (Lists number (listing_of root))) (Loads Begun))
     by true = in-root root h
     by false = tt
-in-taken (HasRoot number root) (Page rows total update) h r = h
-in-taken (HasRoot number root) (Fault code) h r = h
-in-taken (Lists number l) (Text token) h r = h
-in-taken (Lists number l) (Number n) h r = h
-in-taken (Lists number l) (Page rows total update) h r = h
-in-taken (Lists number l) (Fault code) h r = h
-in-taken (HasPage number l page) (Text token) h r = h
-in-taken (HasPage number l page) (Number n) h r = by (nat_eq n number)
+in-taken (Loads (HasRoot number root)) (Page rows total update) h r = h
+in-taken (Loads (HasRoot number root)) (Fault code) h r = h
+in-taken (Loads (Lists number l)) (Text token) h r = h
+in-taken (Loads (Lists number l)) (Number n) h r = h
+in-taken (Loads (Lists number l)) (Page rows total update) h r = h
+in-taken (Loads (Lists number l)) (Fault code) h r = h
+in-taken (Loads (HasPage number l page)) (Text token) h r = h
+in-taken (Loads (HasPage number l page)) (Number n) h r = by (nat_eq n number)
   where
-    judged : (page : Option (List ObjectRow)) → InHeld (held_after (HasPage number l page) (page_taken number l page))
+    judged : (page : Option (List ObjectRow)) → InHeld (after_outcome (Loads (HasPage number l page)) (page_taken number l page))
     judged None = h
     judged (Some rows) = on (fits l rows) refl
       where
-        on : (b : Bool) → fits l rows ≡ b → InHeld (held_after (HasPage number l (Some rows)) (cond b (Holds (after_page number l rows)) (Torn (listed_id l))))
+        on : (b : Bool) → fits l rows ≡ b → InHeld (after_outcome (Loads (HasPage number l (Some rows))) (cond b (Goes (after_page number l rows)) (Tears (listed_id l))))
         on true e = in-page number l.rows l.waiting l.part rows h e
         on false e = h
 
-    by : (b : Bool) → InHeld (held_after (HasPage number l page) (cond b (page_taken number l page) (Holds Begun)))
+    by : (b : Bool) → InHeld (after_outcome (Loads (HasPage number l page)) (cond b (page_taken number l page) (Goes (Loads Begun))))
     by true = judged page
     by false = tt
-in-taken (HasPage number l page) (Page rows total update) h r = h
-in-taken (HasPage number l page) (Fault code) h r = h
+in-taken (Loads (HasPage number l page)) (Page rows total update) h r = h
+in-taken (Loads (HasPage number l page)) (Fault code) h r = h
 in-taken (HasCopy number rows) shown h r = h
 
 in-load : (turns : List LoadTurn) → ShowsRows turns → InHeld (held_by turns)

@@ -9,10 +9,24 @@ use Rattle.cds_catalog.proofs.StepsWithin.{length-map}
 use Rattle.cds_object.specs.declared.event.Event.{Event}
 use Rattle.cds_commands.specs.Notes.{Note, note_of, notes_from_to, changes_above}
 use Rattle.cds_follow.specs.Inbox.{ReplicaTurn, Begins, Shows, Requests, Accepts, Refuses, Delivers, is_out, accepted, is_accepted, is_early, early_notes, received, has_seq, least_outside, next_seq, missing_of, missing, is_same_note, different, waiting_notes, held_notes, held_limit, taken_by, IsUnknown, IsRepeat, IsTooMany, IsEarly, IsHeld, IsNext, is_repeat, is_next, arrival}
-use Rattle.cds_follow.specs.Follow.{Known, Outcome, Knows, CannotBeRead, Jumps, Tears, position, new_changes, greatest_of, is_drop, load_begun, heard_of, with_changes, with_notes, with_reply, known_after, known_by, is_no, is_turned_away, is_refused, and_turn, says_of}
-use Rattle.cds_follow.specs.Named.{TellApart, named_note, named_turn, named, names_do_not_matter}
+use Rattle.cds_follow.specs.Follow.{Known, position, new_changes, greatest_of, is_drop, load_begun, heard_of, with_changes, with_notes, with_reply, known_by, is_turned_away, is_refused, and_turn, says_of, says}
+use Rattle.cds_follow.specs.Named.{named_note, named_turn, named}
+use Rattle.cds_load.specs.Outcome.{Outcome, Goes, CannotBeRead, Jumps, Tears, after_outcome, is_no}
 
-module _ (names : ℕ → ℕ) (apart : TellApart names) where
+-- a way to name subscriptions in which no two numbers have one name
+abbrev pub TellAllApart : (ℕ → ℕ) → Type 0
+TellAllApart names = (m n : ℕ) → names m ≡ names n → m ≡ n
+
+-- what is the same under such names
+pub record SameUnder (names : ℕ → ℕ) (turns : List ReplicaTurn) : Type 0 where
+  pub knows : known_by (named names turns) ≡ known_by turns
+  pub says_so : says (named names turns) ≡ says turns
+  pub hears : (note : Note) → arrival (named_note names note) (named names turns) ≡ arrival note turns
+  pub takes : (turn : ReplicaTurn) →
+      with_notes (taken_by (named_turn names turn) (named names turns)) (known_by (named names turns)) ≡ with_notes (taken_by turn turns) (known_by turns)
+  pub goes_on : (turn : ReplicaTurn) → and_turn (named_turn names turn) (named names turns) ≡ named names (and_turn turn turns)
+
+module _ (names : ℕ → ℕ) (apart : TellAllApart names) where
   abbrev tell : Note → Note
   tell note = named_note names note
 
@@ -169,8 +183,8 @@ module _ (names : ℕ → ℕ) (apart : TellApart names) where
   drop-same at [] = refl
   drop-same at (note ∷ notes) = refl
 
-  heard-same : (notes : List Note) (outcome : Outcome) → heard_of (map tell notes) outcome ≡ heard_of notes outcome
-  heard-same notes (Knows known) = ap (λ (n : ℕ). Knows (record known { last_note = n })) (greatest-same known.last_note notes)
+  heard-same : (notes : List Note) (outcome : Outcome Known) → heard_of (map tell notes) outcome ≡ heard_of notes outcome
+  heard-same notes (Goes known) = ap (λ (n : ℕ). Goes (record known { last_note = n })) (greatest-same known.last_note notes)
   heard-same notes CannotBeRead = refl
   heard-same notes (Jumps expected first) = refl
   heard-same notes (Tears id) = refl
@@ -184,15 +198,15 @@ module _ (names : ℕ → ℕ) (apart : TellApart names) where
   known-same : (turns : List ReplicaTurn) → known_by (named names turns) ≡ known_by turns
   known-same [] = refl
   known-same (Begins ∷ older) = ap load_begun (known-same older)
-  known-same (Shows shown ∷ older) = ap (λ (k : Known). known_after k (with_reply k k.held shown)) (known-same older)
+  known-same (Shows shown ∷ older) = ap (λ (k : Known). after_outcome k (with_reply k k.held shown)) (known-same older)
   known-same (Requests ∷ older) = known-same older
   known-same (Accepts name ∷ older) =
-      (λ i. known_after (known-same older i) (with_notes (taken-same (Accepts name) older i) (known-same older i)))
-      ∙ ap (known_after (known_by older)) (notes-same (taken_by (Accepts name) older) (known_by older))
+      (λ i. after_outcome (known-same older i) (with_notes (taken-same (Accepts name) older i) (known-same older i)))
+      ∙ ap (after_outcome (known_by older)) (notes-same (taken_by (Accepts name) older) (known_by older))
   known-same (Refuses ∷ older) = known-same older
   known-same (Delivers note ∷ older) =
-      (λ i. known_after (known-same older i) (with_notes (taken-same (Delivers note) older i) (known-same older i)))
-      ∙ ap (known_after (known_by older)) (notes-same (taken_by (Delivers note) older) (known_by older))
+      (λ i. after_outcome (known-same older i) (with_notes (taken-same (Delivers note) older i) (known-same older i)))
+      ∙ ap (after_outcome (known_by older)) (notes-same (taken_by (Delivers note) older) (known_by older))
 
   -- ---- what becomes of a note
 
@@ -268,7 +282,7 @@ module _ (names : ℕ → ℕ) (apart : TellApart names) where
       by true = refl
       by false = refl
 
-pub names-same : names_do_not_matter
+pub names-same : (names : ℕ → ℕ) (turns : List ReplicaTurn) → TellAllApart names → SameUnder names turns
 names-same names turns apart = record {
   knows = known-same names apart turns;
   says_so = λ i. says_of (missing-same names apart turns i) (known-same names apart turns i);

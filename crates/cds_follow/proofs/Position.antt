@@ -6,15 +6,16 @@ use Rattle.cds_object.specs.Object.{ObjectRow}
 use Rattle.cds_object.specs.declared.event.Event.{Event}
 use Rattle.cds_load.specs.declared.exchange.Shown.{Shown}
 use Rattle.cds_load.specs.declared.exchange.Shown.TheVariants.{Text, Number, Page, Fault}
-use Rattle.cds_load.specs.Stages.{Held, Idle, Begun, HasToken, HasNumber, HasRoot, Lists, HasPage, HasCopy, Taken, Holds, Unreadable, Torn, taken}
+use Rattle.cds_load.specs.Stages.{Held, Idle, HasCopy, taken, Loads}
 use Rattle.cds_commands.specs.Notes.{Note, changes_above}
 use Rattle.cds_follow.specs.Copy.{Happening, Changes, Reads, rows_after, known_of, least_unread}
 use Rattle.cds_follow.specs.Inbox.{ReplicaTurn, Begins, Shows, Requests, Accepts, Refuses, Delivers, taken_by}
-use Rattle.cds_follow.specs.Follow.{Known, position, Outcome, Knows, CannotBeRead, Jumps, Tears, first_torn, judged, counted_from, with_changes, load_begun, new_changes, greatest_of, is_drop, dropped, heard_of, with_notes, loaded, is_of, row_read, copy_read, with_reply, known_after, known_by, is_no}
+use Rattle.cds_follow.specs.Follow.{Known, position, first_torn, judged, counted_from, with_changes, load_begun, new_changes, greatest_of, is_drop, dropped, heard_of, with_notes, loaded, is_of, row_read, copy_read, with_reply, known_by}
 use Rattle.cds_follow.specs.ServerLaws.{befalling}
 use Rattle.cds_follow.specs.KnownLaws.{taken_notes, and_told, told_since, counted_changes, position_is_the_greatest, counted_changes_are_fresh, notes_leave_the_load}
 use Rattle.cds_follow.proofs.Heard.{knows-is, notes-leave, notes-heard, reply-heard}
 use Rattle.cds_object.specs.Events.{update_of, is_change}
+use Rattle.cds_load.specs.Outcome.{Outcome, Goes, CannotBeRead, Jumps, Tears, after_outcome, is_no}
 
 -- ---- the position
 
@@ -31,11 +32,11 @@ none-taken : (b : Bool) (notes : List Note) → greatest_of 0 (notes ++ cond {A 
 none-taken b notes = ap (λ (l : List Note). greatest_of 0 (notes ++ l)) (same-either b) ∙ ap (greatest_of 0) (append-nil notes)
 
 notes-greatest : (known : Known) (before notes : List Note) → known.last_note ≡ greatest_of 0 before
-    → (known_after known (with_notes notes known)).last_note ≡ greatest_of 0 (before ++ cond (is_no (with_notes notes known)) [] notes)
+    → (after_outcome known (with_notes notes known)).last_note ≡ greatest_of 0 (before ++ cond (is_no (with_notes notes known)) [] notes)
 notes-greatest known before notes is = by (with_notes notes known) refl
   where
-    by : (o : Outcome) → with_notes notes known ≡ o → (known_after known o).last_note ≡ greatest_of 0 (before ++ cond (is_no o) [] notes)
-    by (Knows now) e =
+    by : (o : Outcome Known) → with_notes notes known ≡ o → (after_outcome known o).last_note ≡ greatest_of 0 (before ++ cond (is_no o) [] notes)
+    by (Goes now) e =
         notes-heard notes known now e ∙ ap (λ (n : ℕ). greatest_of n notes) is ∙ sym (greatest-append 0 before notes)
     by CannotBeRead e = is ∙ ap (greatest_of 0) (sym (append-nil before))
     by (Jumps expected first) e = is ∙ ap (greatest_of 0) (sym (append-nil before))
@@ -47,8 +48,8 @@ heard-greatest (Begins ∷ older) = heard-greatest older ∙ sym (none-taken (is
 heard-greatest (Shows shown ∷ older) =
     by (with_reply (known_by older) (known_by older).held shown) refl ∙ heard-greatest older ∙ sym (none-taken (is_no (with_notes [] (known_by older))) (taken_notes older))
   where
-    by : (o : Outcome) → with_reply (known_by older) (known_by older).held shown ≡ o → (known_after (known_by older) o).last_note ≡ (known_by older).last_note
-    by (Knows now) e = reply-heard (known_by older) now (known_by older).held shown e
+    by : (o : Outcome Known) → with_reply (known_by older) (known_by older).held shown ≡ o → (after_outcome (known_by older) o).last_note ≡ (known_by older).last_note
+    by (Goes now) e = reply-heard (known_by older) now (known_by older).held shown e
     by CannotBeRead e = refl
     by (Jumps expected first) e = refl
     by (Tears id) e = refl
@@ -102,23 +103,18 @@ above-new b at (note ∷ notes) l =
 -- what was counted or is kept, by the stage of the load
 abbrev Counts : Held → Known → List Event → Type 0
 Counts Idle known told = Unit {0}
-Counts Begun known told = known.kept ≡ told
-Counts HasToken known told = known.kept ≡ told
-Counts (HasNumber number) known told = known.kept ≡ told
-Counts (HasRoot number root) known told = known.kept ≡ told
-Counts (Lists number listing) known told = known.kept ≡ told
-Counts (HasPage number listing page) known told = known.kept ≡ told
+Counts (Loads stage) known told = known.kept ≡ told
 Counts (HasCopy number rows) known told = counted_changes known.happenings ≡ changes_above known.base told
 
 -- what is known, with what was told
 abbrev Fits : Known → List Event → Type 0
 Fits known told = Counts known.held known told
 
-fits-by : (made now : Known) (told : List Event) → Knows made ≡ Knows now → Fits made told → Fits now told
+fits-by : (made now : Known) (told : List Event) → Goes made ≡ Goes now → Fits made told → Fits now told
 fits-by made now told e f = subst (λ (x : Known). Fits x told) (knows-is made now e) f
 
 -- what changes that are counted add
-counted-more : (rows : List ObjectRow) (known now : Known) (at : ℕ) (events : List Event) → counted_from rows known at events ≡ Knows now
+counted-more : (rows : List ObjectRow) (known now : Known) (at : ℕ) (events : List Event) → counted_from rows known at events ≡ Goes now
     → (now.held ≡ known.held) × (now.base ≡ known.base) × (counted_changes now.happenings ≡ counted_changes known.happenings ++ events)
 counted-more rows known now at [] e =
     let same : known ≡ now = knows-is known now e in (
@@ -131,7 +127,7 @@ counted-more rows known now at (event ∷ events) e = by (nat_eq (update_of even
     made : Known
     made = record known { happenings = reverse (map Changes (event ∷ events)) ++ known.happenings }
 
-    on : (o : Option ℕ) → judged known (event ∷ events) o ≡ Knows now
+    on : (o : Option ℕ) → judged known (event ∷ events) o ≡ Goes now
         → (now.held ≡ known.held) × (now.base ≡ known.base) × (counted_changes now.happenings ≡ counted_changes known.happenings ++ (event ∷ events))
     on (Some id) k = absurd (cc)
     on None k =
@@ -141,31 +137,26 @@ counted-more rows known now at (event ∷ events) e = by (nat_eq (update_of even
           ap (λ (x : Known). counted_changes x.happenings) (sym same) ∙ counted-befalling (event ∷ events) known.happenings,
         )
 
-    by : (b : Bool) → cond b (judged known (event ∷ events) (first_torn (rows_after rows known.happenings) (event ∷ events))) (Jumps (at + 1) (update_of event)) ≡ Knows now
+    by : (b : Bool) → cond b (judged known (event ∷ events) (first_torn (rows_after rows known.happenings) (event ∷ events))) (Jumps (at + 1) (update_of event)) ≡ Goes now
         → (now.held ≡ known.held) × (now.base ≡ known.base) × (counted_changes now.happenings ≡ counted_changes known.happenings ++ (event ∷ events))
     by true k = on (first_torn (rows_after rows known.happenings) (event ∷ events)) k
     by false k = absurd (cc)
 
 -- changes that are new are kept or counted
 new-fits : (held : Held) (known now : Known) (at : ℕ) (told new : List Event) → known.held ≡ held → Counts held known told → changes_above known.base new ≡ new
-    → with_changes held known at new ≡ Knows now → Fits now (told ++ new)
+    → with_changes held known at new ≡ Goes now → Fits now (told ++ new)
 new-fits held known now at told new is counts above e = by held is counts e
   where
-    kept : (h : Held) → known.held ≡ h → known.kept ≡ told → Knows (record known { kept = known.kept ++ new }) ≡ Knows now
+    kept : (h : Held) → known.held ≡ h → known.kept ≡ told → Goes (record known { kept = known.kept ++ new }) ≡ Goes now
         → ((x : Known) → x.kept ≡ told ++ new → Counts h x (told ++ new)) → Fits now (told ++ new)
     kept h same k e f =
         fits-by (record known { kept = known.kept ++ new }) now (told ++ new) e
         (subst (λ (g : Held). Counts g (record known { kept = known.kept ++ new }) (told ++ new)) (sym same)
         (f (record known { kept = known.kept ++ new }) (ap (λ (l : List Event). l ++ new) k)))
 
-    by : (h : Held) → known.held ≡ h → Counts h known told → with_changes h known at new ≡ Knows now → Fits now (told ++ new)
+    by : (h : Held) → known.held ≡ h → Counts h known told → with_changes h known at new ≡ Goes now → Fits now (told ++ new)
     by Idle same c e = fits-by known now (told ++ new) e (subst (λ (g : Held). Counts g known (told ++ new)) (sym same) tt)
-    by Begun same c e = kept Begun same c e (λ x k. k)
-    by HasToken same c e = kept HasToken same c e (λ x k. k)
-    by (HasNumber number) same c e = kept (HasNumber number) same c e (λ x k. k)
-    by (HasRoot number root) same c e = kept (HasRoot number root) same c e (λ x k. k)
-    by (Lists number listing) same c e = kept (Lists number listing) same c e (λ x k. k)
-    by (HasPage number listing page) same c e = kept (HasPage number listing page) same c e (λ x k. k)
+    by (Loads stage) same c e = kept (Loads stage) same c e (λ x k. k)
     by (HasCopy number rows) same c e =
         let more = counted-more rows known now at new e in
         subst (λ (g : Held). Counts g now (told ++ new)) (sym (more.0 ∙ same))
@@ -180,15 +171,10 @@ heard-fits known n told f = by known.held refl f
   where
     by : (h : Held) → known.held ≡ h → Counts h known told → Counts known.held (record known { last_note = n }) told
     by Idle same c = subst (λ (g : Held). Counts g (record known { last_note = n }) told) (sym same) tt
-    by Begun same c = subst (λ (g : Held). Counts g (record known { last_note = n }) told) (sym same) c
-    by HasToken same c = subst (λ (g : Held). Counts g (record known { last_note = n }) told) (sym same) c
-    by (HasNumber number) same c = subst (λ (g : Held). Counts g (record known { last_note = n }) told) (sym same) c
-    by (HasRoot number root) same c = subst (λ (g : Held). Counts g (record known { last_note = n }) told) (sym same) c
-    by (Lists number listing) same c = subst (λ (g : Held). Counts g (record known { last_note = n }) told) (sym same) c
-    by (HasPage number listing page) same c = subst (λ (g : Held). Counts g (record known { last_note = n }) told) (sym same) c
+    by (Loads stage) same c = subst (λ (g : Held). Counts g (record known { last_note = n }) told) (sym same) c
     by (HasCopy number rows) same c = subst (λ (g : Held). Counts g (record known { last_note = n }) told) (sym same) c
 
-notes-fit : (notes : List Note) (known : Known) (told : List Event) → Fits known told → Fits (known_after known (with_notes notes known)) (and_told notes known told)
+notes-fit : (notes : List Note) (known : Known) (told : List Event) → Fits known told → Fits (after_outcome known (with_notes notes known)) (and_told notes known told)
 notes-fit notes known told f = by (with_notes notes known) refl
   where
     new : List Event
@@ -205,9 +191,9 @@ notes-fit notes known told f = by (with_notes notes known) refl
     above : changes_above (dropped notes known).base new ≡ new
     above = ap (λ (n : ℕ). changes_above n new) (start (is_drop (position known) notes)) ∙ above-new known.base (position known) notes (omega arith)
 
-    on : (o : Outcome) (now : Known) → with_changes (dropped notes known).held (dropped notes known) (position known) new ≡ o → heard_of notes o ≡ Knows now
+    on : (o : Outcome Known) (now : Known) → with_changes (dropped notes known).held (dropped notes known) (position known) new ≡ o → heard_of notes o ≡ Goes now
         → Fits now (cond (is_drop (position known) notes) [] told ++ new)
-    on (Knows made) now k h =
+    on (Goes made) now k h =
         fits-by (record made { last_note = greatest_of made.last_note notes }) now (cond (is_drop (position known) notes) [] told ++ new) h
         (heard-fits made (greatest_of made.last_note notes) (cond (is_drop (position known) notes) [] told ++ new)
         (new-fits (dropped notes known).held (dropped notes known) made (position known) (cond (is_drop (position known) notes) [] told) new refl
@@ -216,8 +202,8 @@ notes-fit notes known told f = by (with_notes notes known) refl
     on (Jumps expected first) now k h = absurd (cc)
     on (Tears id) now k h = absurd (cc)
 
-    by : (o : Outcome) → with_notes notes known ≡ o → Fits (known_after known o) (cond (is_no o) told (cond (is_drop (position known) notes) [] told ++ new))
-    by (Knows now) e = on (with_changes (dropped notes known).held (dropped notes known) (position known) new) now refl e
+    by : (o : Outcome Known) → with_notes notes known ≡ o → Fits (after_outcome known o) (cond (is_no o) told (cond (is_drop (position known) notes) [] told ++ new))
+    by (Goes now) e = on (with_changes (dropped notes known).held (dropped notes known) (position known) new) now refl e
     by CannotBeRead e = f
     by (Jumps expected first) e = f
     by (Tears id) e = f
@@ -225,29 +211,25 @@ notes-fit notes known told f = by (with_notes notes known) refl
 -- ---- replies
 
 -- a load that goes on keeps what it kept, and a copy counts what is above the number that the load read
-loaded-fits : (known now : Known) (t : Taken) (told : List Event) → known.kept ≡ told → loaded known t ≡ Knows now → Fits now told
-loaded-fits known now Unreadable told kept e = absurd (cc)
-loaded-fits known now (Torn id) told kept e = absurd (cc)
-loaded-fits known now (Holds held) told kept e = by held e
+loaded-fits : (known now : Known) (t : Outcome Held) (told : List Event) → known.kept ≡ told → loaded known t ≡ Goes now → Fits now told
+loaded-fits known now CannotBeRead told kept e = absurd (cc)
+loaded-fits known now (Jumps expected first) told kept e = absurd (cc)
+loaded-fits known now (Tears id) told kept e = absurd (cc)
+loaded-fits known now (Goes held) told kept e = by held e
   where
     ended : ℕ → List ObjectRow → Known
     ended number rows = record { held = HasCopy number rows; base = number; last_note = known.last_note; kept = []; happenings = [] }
 
-    by : (h : Held) → loaded known (Holds h) ≡ Knows now → Fits now told
+    by : (h : Held) → loaded known (Goes h) ≡ Goes now → Fits now told
     by Idle k = fits-by (record known { held = Idle }) now told k tt
-    by Begun k = fits-by (record known { held = Begun }) now told k kept
-    by HasToken k = fits-by (record known { held = HasToken }) now told k kept
-    by (HasNumber number) k = fits-by (record known { held = HasNumber number }) now told k kept
-    by (HasRoot number root) k = fits-by (record known { held = HasRoot number root }) now told k kept
-    by (Lists number listing) k = fits-by (record known { held = Lists number listing }) now told k kept
-    by (HasPage number listing page) k = fits-by (record known { held = HasPage number listing page }) now told k kept
+    by (Loads stage) k = fits-by (record known { held = Loads stage }) now told k kept
     by (HasCopy number rows) k =
         let more = counted-more rows (ended number rows) now number (changes_above number known.kept) k in
         subst (λ (h : Held). Counts h now told) (sym more.0)
         (more.2 ∙ ap (changes_above number) kept ∙ ap (λ (n : ℕ). changes_above n told) (sym more.1))
 
 row-fits : (known now : Known) (number : ℕ) (rows : List ObjectRow) (id : ℕ) (shown : List ObjectRow) (told : List Event) → known.held ≡ HasCopy number rows
-    → Counts (HasCopy number rows) known told → row_read known rows id shown ≡ Knows now → Fits now told
+    → Counts (HasCopy number rows) known told → row_read known rows id shown ≡ Goes now → Fits now told
 row-fits known now number rows id [] told same c e = absurd (cc)
 row-fits known now number rows id (row ∷ next ∷ others) told same c e = absurd (cc)
 row-fits known now number rows id (row ∷ []) told same c e = by (is_of id row (known_of id (rows_after rows known.happenings))) e
@@ -255,26 +237,21 @@ row-fits known now number rows id (row ∷ []) told same c e = by (is_of id row 
     made : Known
     made = record known { happenings = Reads id (record { content = row.content; object_update = row.object_update }) ∷ known.happenings }
 
-    by : (b : Bool) → cond b (Knows made) (Tears id) ≡ Knows now → Fits now told
+    by : (b : Bool) → cond b (Goes made) (Tears id) ≡ Goes now → Fits now told
     by true k = fits-by made now told k (subst (λ (h : Held). Counts h made told) (sym same) c)
     by false k = absurd (cc)
 
 copy-fits : (known now : Known) (number : ℕ) (rows : List ObjectRow) (o : Option ℕ) (shown : Shown) (told : List Event) → known.held ≡ HasCopy number rows
-    → Counts (HasCopy number rows) known told → copy_read known rows o shown ≡ Knows now → Fits now told
+    → Counts (HasCopy number rows) known told → copy_read known rows o shown ≡ Goes now → Fits now told
 copy-fits known now number rows None shown told same c e = absurd (cc)
 copy-fits known now number rows (Some id) (Text token) told same c e = absurd (cc)
 copy-fits known now number rows (Some id) (Number other) told same c e = absurd (cc)
 copy-fits known now number rows (Some id) (Page shown total update) told same c e = row-fits known now number rows id shown told same c e
 copy-fits known now number rows (Some id) (Fault code) told same c e = fits-by known now told e (subst (λ (h : Held). Counts h known told) (sym same) c)
 
-reply-fits : (known now : Known) (held : Held) (shown : Shown) (told : List Event) → known.held ≡ held → Counts held known told → with_reply known held shown ≡ Knows now → Fits now told
+reply-fits : (known now : Known) (held : Held) (shown : Shown) (told : List Event) → known.held ≡ held → Counts held known told → with_reply known held shown ≡ Goes now → Fits now told
 reply-fits known now Idle shown told same c e = absurd (cc)
-reply-fits known now Begun shown told same c e = loaded-fits known now (taken Begun shown) told c e
-reply-fits known now HasToken shown told same c e = loaded-fits known now (taken HasToken shown) told c e
-reply-fits known now (HasNumber number) shown told same c e = loaded-fits known now (taken (HasNumber number) shown) told c e
-reply-fits known now (HasRoot number root) shown told same c e = loaded-fits known now (taken (HasRoot number root) shown) told c e
-reply-fits known now (Lists number listing) shown told same c e = loaded-fits known now (taken (Lists number listing) shown) told c e
-reply-fits known now (HasPage number listing page) shown told same c e = loaded-fits known now (taken (HasPage number listing page) shown) told c e
+reply-fits known now (Loads stage) shown told same c e = loaded-fits known now (taken (Loads stage) shown) told c e
 reply-fits known now (HasCopy number rows) shown told same c e = copy-fits known now number rows (least_unread known.happenings) shown told same c e
 
 known-fits : (turns : List ReplicaTurn) → Fits (known_by turns) (told_since turns)
@@ -282,8 +259,8 @@ known-fits [] = tt
 known-fits (Begins ∷ older) = refl
 known-fits (Shows shown ∷ older) = by (with_reply (known_by older) (known_by older).held shown) refl (known-fits older)
   where
-    by : (o : Outcome) → with_reply (known_by older) (known_by older).held shown ≡ o → Fits (known_by older) (told_since older) → Fits (known_after (known_by older) o) (told_since older)
-    by (Knows now) e f = reply-fits (known_by older) now (known_by older).held shown (told_since older) refl f e
+    by : (o : Outcome Known) → with_reply (known_by older) (known_by older).held shown ≡ o → Fits (known_by older) (told_since older) → Fits (after_outcome (known_by older) o) (told_since older)
+    by (Goes now) e f = reply-fits (known_by older) now (known_by older).held shown (told_since older) refl f e
     by CannotBeRead e f = f
     by (Jumps expected first) e f = f
     by (Tears id) e f = f

@@ -5,11 +5,11 @@ use Rattle.cds_object.specs.Object.{ObjectRow}
 use Rattle.cds_object.specs.declared.event.Event.{Event}
 use Rattle.cds_load.specs.declared.exchange.Shown.{Shown}
 use Rattle.cds_load.specs.declared.exchange.Shown.TheVariants.{Text, Number, Page, Fault}
-use Rattle.cds_load.specs.Stages.{Held, Idle, Begun, HasToken, HasNumber, HasRoot, Lists, HasPage, HasCopy, Taken, Holds, Unreadable, Torn, taken}
+use Rattle.cds_load.specs.Stages.{Held, Idle, HasCopy, taken, Loads}
 use Rattle.cds_commands.specs.Notes.{Note, changes_above}
 use Rattle.cds_follow.specs.Copy.{Version, Happening, Changes, Reads, rows_after, known_of, least_unread}
 use Rattle.cds_follow.specs.Inbox.{ReplicaTurn, Begins, Shows, Requests, Accepts, Refuses, Delivers, taken_by}
-use Rattle.cds_follow.specs.Follow.{Known, position, Outcome, Knows, CannotBeRead, Jumps, Tears, first_torn, judged, counted_from, with_changes, load_begun, new_changes, greatest_of, is_drop, dropped, heard_of, with_notes, loaded, is_of, row_read, copy_read, with_reply, known_after, known_by, is_no, is_refused}
+use Rattle.cds_follow.specs.Follow.{Known, position, first_torn, judged, counted_from, with_changes, load_begun, new_changes, greatest_of, is_drop, dropped, heard_of, with_notes, loaded, is_of, row_read, copy_read, with_reply, known_by, is_refused}
 use Rattle.cds_follow.specs.KnownLaws.{has_copy}
 use Rattle.cds_follow.specs.ServerLaws.{befalling}
 use Rattle.cds_follow.specs.Seen.{StandsThrough, WasRead, reads_are_replies}
@@ -17,6 +17,7 @@ use Rattle.cds_commands.proofs.Among.{Among, among-contained, among-append, amon
 use Rattle.cds_follow.proofs.Came.{contained-among}
 use Rattle.cds_follow.proofs.Heard.{knows-is, notes-leave}
 use Rattle.cds_object.specs.Events.{update_of}
+use Rattle.cds_load.specs.Outcome.{Outcome, Goes, CannotBeRead, Jumps, Tears, after_outcome, is_no}
 
 -- ---- happenings that are put before others
 
@@ -48,48 +49,43 @@ same-reads now before id v f a = by (among-append (befalling f.0) before (Reads 
 kept-reads : (now before : List Happening) (id : ℕ) (v : Version) → Follows now before → Among (Reads id v) before → Among (Reads id v) now
 kept-reads now before id v f a = subst (λ (l : List Happening). Among (Reads id v) l) (sym f.1) (among-right (befalling f.0) before (Reads id v) a)
 
-counted-follows : (rows : List ObjectRow) (known now : Known) (at : ℕ) (events : List Event) → counted_from rows known at events ≡ Knows now → Follows now.happenings known.happenings
+counted-follows : (rows : List ObjectRow) (known now : Known) (at : ℕ) (events : List Event) → counted_from rows known at events ≡ Goes now → Follows now.happenings known.happenings
 counted-follows rows known now at [] e = ([], ap (λ (x : Known). x.happenings) (sym (knows-is known now e)))
 counted-follows rows known now at (event ∷ events) e = by (nat_eq (update_of event) (at + 1)) e
   where
-    on : (o : Option ℕ) → judged known (event ∷ events) o ≡ Knows now → Follows now.happenings known.happenings
+    on : (o : Option ℕ) → judged known (event ∷ events) o ≡ Goes now → Follows now.happenings known.happenings
     on (Some id) k = absurd (cc)
     on None k =
         (event ∷ events, ap (λ (x : Known). x.happenings) (sym (knows-is (record known { happenings = befalling (event ∷ events) ++ known.happenings }) now k)))
 
-    by : (b : Bool) → cond b (judged known (event ∷ events) (first_torn (rows_after rows known.happenings) (event ∷ events))) (Jumps (at + 1) (update_of event)) ≡ Knows now
+    by : (b : Bool) → cond b (judged known (event ∷ events) (first_torn (rows_after rows known.happenings) (event ∷ events))) (Jumps (at + 1) (update_of event)) ≡ Goes now
         → Follows now.happenings known.happenings
     by true k = on (first_torn (rows_after rows known.happenings) (event ∷ events)) k
     by false k = absurd (cc)
 
-changes-follow : (held : Held) (known now : Known) (at : ℕ) (events : List Event) → with_changes held known at events ≡ Knows now → Follows now.happenings known.happenings
+changes-follow : (held : Held) (known now : Known) (at : ℕ) (events : List Event) → with_changes held known at events ≡ Goes now → Follows now.happenings known.happenings
 changes-follow Idle known now at events e = ([], ap (λ (x : Known). x.happenings) (sym (knows-is known now e)))
-changes-follow Begun known now at events e = ([], ap (λ (x : Known). x.happenings) (sym (knows-is (record known { kept = known.kept ++ events }) now e)))
-changes-follow HasToken known now at events e = ([], ap (λ (x : Known). x.happenings) (sym (knows-is (record known { kept = known.kept ++ events }) now e)))
-changes-follow (HasNumber number) known now at events e = ([], ap (λ (x : Known). x.happenings) (sym (knows-is (record known { kept = known.kept ++ events }) now e)))
-changes-follow (HasRoot number root) known now at events e = ([], ap (λ (x : Known). x.happenings) (sym (knows-is (record known { kept = known.kept ++ events }) now e)))
-changes-follow (Lists number listing) known now at events e = ([], ap (λ (x : Known). x.happenings) (sym (knows-is (record known { kept = known.kept ++ events }) now e)))
-changes-follow (HasPage number listing page) known now at events e = ([], ap (λ (x : Known). x.happenings) (sym (knows-is (record known { kept = known.kept ++ events }) now e)))
+changes-follow (Loads stage) known now at events e = ([], ap (λ (x : Known). x.happenings) (sym (knows-is (record known { kept = known.kept ++ events }) now e)))
 changes-follow (HasCopy number rows) known now at events e = counted-follows rows known now at events e
 
 -- ---- notes
 
 -- where a copy stands after notes it stood before them, and changes alone befell it
-notes-follow : (notes : List Note) (known : Known) → has_copy (known_after known (with_notes notes known)).held ≡ true
-    → (has_copy known.held ≡ true) × Follows (known_after known (with_notes notes known)).happenings known.happenings
+notes-follow : (notes : List Note) (known : Known) → has_copy (after_outcome known (with_notes notes known)).held ≡ true
+    → (has_copy known.held ≡ true) × Follows (after_outcome known (with_notes notes known)).happenings known.happenings
 notes-follow notes known stands = by (with_notes notes known) refl stands
   where
-    on : (now : Known) → with_notes notes known ≡ Knows now → (o : Outcome)
-        → with_changes (dropped notes known).held (dropped notes known) (position known) (new_changes (position known) notes) ≡ o → heard_of notes o ≡ Knows now
+    on : (now : Known) → with_notes notes known ≡ Goes now → (o : Outcome Known)
+        → with_changes (dropped notes known).held (dropped notes known) (position known) (new_changes (position known) notes) ≡ o → heard_of notes o ≡ Goes now
         → Follows now.happenings (dropped notes known).happenings
-    on now e (Knows made) k h =
+    on now e (Goes made) k h =
         let f = changes-follow (dropped notes known).held (dropped notes known) made (position known) (new_changes (position known) notes) k in
         (f.0, ap (λ (x : Known). x.happenings) (sym (knows-is (record made { last_note = greatest_of made.last_note notes }) now h)) ∙ f.1)
     on now e CannotBeRead k h = absurd (cc)
     on now e (Jumps expected first) k h = absurd (cc)
     on now e (Tears id) k h = absurd (cc)
 
-    stood : (now : Known) → with_notes notes known ≡ Knows now → has_copy now.held ≡ true → Follows now.happenings (dropped notes known).happenings
+    stood : (now : Known) → with_notes notes known ≡ Goes now → has_copy now.held ≡ true → Follows now.happenings (dropped notes known).happenings
         → (has_copy known.held ≡ true) × Follows now.happenings known.happenings
     stood now e s f = drop (is_drop (position known) notes) refl
       where
@@ -104,9 +100,9 @@ notes-follow notes known stands = by (with_notes notes known) refl stands
               subst (λ (x : Known). Follows now.happenings x.happenings) same f,
             )
 
-    by : (o : Outcome) → with_notes notes known ≡ o → has_copy (known_after known o).held ≡ true
-        → (has_copy known.held ≡ true) × Follows (known_after known o).happenings known.happenings
-    by (Knows now) e s =
+    by : (o : Outcome Known) → with_notes notes known ≡ o → has_copy (after_outcome known o).held ≡ true
+        → (has_copy known.held ≡ true) × Follows (after_outcome known o).happenings known.happenings
+    by (Goes now) e s =
         stood now e s (on now e (with_changes (dropped notes known).held (dropped notes known) (position known) (new_changes (position known) notes)) refl e)
     by CannotBeRead e s = (s, ([], refl))
     by (Jumps expected first) e s = (s, ([], refl))
@@ -122,7 +118,7 @@ Put turn known now =
     × (now.happenings ≡ Reads id (record { content = row.content; object_update = row.object_update }) ∷ known.happenings))
 
 row-put : (known now : Known) (rows : List ObjectRow) (id : ℕ) (page : List ObjectRow) (total update : ℕ) → least_unread known.happenings ≡ Some id
-    → row_read known rows id page ≡ Knows now → Put (Shows (Page page total update)) known now
+    → row_read known rows id page ≡ Goes now → Put (Shows (Page page total update)) known now
 row-put known now rows id [] total update asked e = absurd (cc)
 row-put known now rows id (row ∷ next ∷ others) total update asked e = absurd (cc)
 row-put known now rows id (row ∷ []) total update asked e = by (is_of id row (known_of id (rows_after rows known.happenings))) e
@@ -130,11 +126,11 @@ row-put known now rows id (row ∷ []) total update asked e = by (is_of id row (
     made : Known
     made = record known { happenings = Reads id (record { content = row.content; object_update = row.object_update }) ∷ known.happenings }
 
-    by : (b : Bool) → cond b (Knows made) (Tears id) ≡ Knows now → Put (Shows (Page (row ∷ []) total update)) known now
+    by : (b : Bool) → cond b (Goes made) (Tears id) ≡ Goes now → Put (Shows (Page (row ∷ []) total update)) known now
     by true k = inr (id, row, total, update, refl, asked, ap (λ (x : Known). x.happenings) (sym (knows-is made now k)))
     by false k = absurd (cc)
 
-copy-put : (known now : Known) (rows : List ObjectRow) (o : Option ℕ) (shown : Shown) → least_unread known.happenings ≡ o → copy_read known rows o shown ≡ Knows now
+copy-put : (known now : Known) (rows : List ObjectRow) (o : Option ℕ) (shown : Shown) → least_unread known.happenings ≡ o → copy_read known rows o shown ≡ Goes now
     → Put (Shows shown) known now
 copy-put known now rows None shown asked e = absurd (cc)
 copy-put known now rows (Some id) (Text token) asked e = absurd (cc)
@@ -143,22 +139,18 @@ copy-put known now rows (Some id) (Page page total update) asked e = row-put kno
 copy-put known now rows (Some id) (Fault code) asked e = inl (ap (λ (x : Known). x.happenings) (sym (knows-is known now e)))
 
 -- a load that ends begins with changes alone
-loaded-follows : (known now : Known) (t : Taken) → loaded known t ≡ Knows now → has_copy now.held ≡ true → Follows now.happenings []
-loaded-follows known now Unreadable e s = absurd (cc)
-loaded-follows known now (Torn id) e s = absurd (cc)
-loaded-follows known now (Holds held) e s = by held e
+loaded-follows : (known now : Known) (t : Outcome Held) → loaded known t ≡ Goes now → has_copy now.held ≡ true → Follows now.happenings []
+loaded-follows known now CannotBeRead e s = absurd (cc)
+loaded-follows known now (Jumps expected first) e s = absurd (cc)
+loaded-follows known now (Tears id) e s = absurd (cc)
+loaded-follows known now (Goes held) e s = by held e
   where
-    no : (h : Held) → has_copy h ≡ false → Knows (record known { held = h }) ≡ Knows now → Follows now.happenings []
+    no : (h : Held) → has_copy h ≡ false → Goes (record known { held = h }) ≡ Goes now → Follows now.happenings []
     no h c k = absurd (true≢false (sym s ∙ ap (λ (x : Known). has_copy x.held) (sym (knows-is (record known { held = h }) now k)) ∙ c))
 
-    by : (h : Held) → loaded known (Holds h) ≡ Knows now → Follows now.happenings []
+    by : (h : Held) → loaded known (Goes h) ≡ Goes now → Follows now.happenings []
     by Idle k = no Idle refl k
-    by Begun k = no Begun refl k
-    by HasToken k = no HasToken refl k
-    by (HasNumber number) k = no (HasNumber number) refl k
-    by (HasRoot number root) k = no (HasRoot number root) refl k
-    by (Lists number listing) k = no (Lists number listing) refl k
-    by (HasPage number listing page) k = no (HasPage number listing page) refl k
+    by (Loads stage) k = no (Loads stage) refl k
     by (HasCopy number rows) k =
         counted-follows rows (record { held = HasCopy number rows; base = number; last_note = known.last_note; kept = []; happenings = [] }) now number (changes_above number known.kept) k
 
@@ -166,14 +158,9 @@ loaded-follows known now (Holds held) e s = by held e
 abbrev Replied : ReplicaTurn → Held → Known → Known → Type 0
 Replied turn held known now = ((has_copy held ≡ true) × Put turn known now) ⊎ ((has_copy held ≡ false) × Follows now.happenings [])
 
-reply-put : (known now : Known) (held : Held) (shown : Shown) → with_reply known held shown ≡ Knows now → has_copy now.held ≡ true → Replied (Shows shown) held known now
+reply-put : (known now : Known) (held : Held) (shown : Shown) → with_reply known held shown ≡ Goes now → has_copy now.held ≡ true → Replied (Shows shown) held known now
 reply-put known now Idle shown e s = absurd (cc)
-reply-put known now Begun shown e s = inr (refl, loaded-follows known now (taken Begun shown) e s)
-reply-put known now HasToken shown e s = inr (refl, loaded-follows known now (taken HasToken shown) e s)
-reply-put known now (HasNumber number) shown e s = inr (refl, loaded-follows known now (taken (HasNumber number) shown) e s)
-reply-put known now (HasRoot number root) shown e s = inr (refl, loaded-follows known now (taken (HasRoot number root) shown) e s)
-reply-put known now (Lists number listing) shown e s = inr (refl, loaded-follows known now (taken (Lists number listing) shown) e s)
-reply-put known now (HasPage number listing page) shown e s = inr (refl, loaded-follows known now (taken (HasPage number listing page) shown) e s)
+reply-put known now (Loads stage) shown e s = inr (refl, loaded-follows known now (taken (Loads stage) shown) e s)
 reply-put known now (HasCopy number rows) shown e s = inl (refl, copy-put known now rows (least_unread known.happenings) shown refl e)
 
 -- ---- from what befell to the reply
@@ -215,7 +202,7 @@ module _ (id : ℕ) (v : Version) where
       Rest : Type 0
       Rest = has_copy (known_by older).held ≡ true → InCopy older → WasRead (Shows shown ∷ older) id v
 
-      on : (now : Known) → with_reply (known_by older) (known_by older).held shown ≡ Knows now → Among (Reads id v) now.happenings → Rest
+      on : (now : Known) → with_reply (known_by older) (known_by older).held shown ≡ Goes now → Among (Reads id v) now.happenings → Rest
           → Replied (Shows shown) (known_by older).held (known_by older) now → WasRead (Shows shown ∷ older) id v
       on now e b r (inr (c, f)) = absurd (same-reads now.happenings [] id v f b)
       on now e b r (inl (c, inl same)) = r c (subst (λ (l : List Happening). Among (Reads id v) l) same b)
@@ -243,9 +230,9 @@ module _ (id : ℕ) (v : Version) where
           here (inl same) = subst (λ (t : ReplicaTurn). WasRead (t ∷ older) id v) (sym is) (found same)
           here (inr b) = r c b
 
-      by : (o : Outcome) → with_reply (known_by older) (known_by older).held shown ≡ o → has_copy (known_after (known_by older) o).held ≡ true
-          → Among (Reads id v) (known_after (known_by older) o).happenings → Rest → WasRead (Shows shown ∷ older) id v
-      by (Knows now) e t b r = on now e b r (reply-put (known_by older) now (known_by older).held shown e t)
+      by : (o : Outcome Known) → with_reply (known_by older) (known_by older).held shown ≡ o → has_copy (after_outcome (known_by older) o).held ≡ true
+          → Among (Reads id v) (after_outcome (known_by older) o).happenings → Rest → WasRead (Shows shown ∷ older) id v
+      by (Goes now) e t b r = on now e b r (reply-put (known_by older) now (known_by older).held shown e t)
       by CannotBeRead e t b r = r t b
       by (Jumps expected first) e t b r = r t b
       by (Tears other) e t b r = r t b
@@ -267,9 +254,9 @@ module _ (id : ℕ) (v : Version) where
       on now (inl (t, inl same)) = subst (λ (l : List Happening). Among (Reads id v) l) (sym same) a
       on now (inl (t, inr (other, row, total, update, is, asked, put))) = subst (λ (l : List Happening). Among (Reads id v) l) (sym put) (inr a)
 
-      by : (o : Outcome) → with_reply (known_by older) (known_by older).held shown ≡ o → has_copy (known_after (known_by older) o).held ≡ true
-          → Among (Reads id v) (known_after (known_by older) o).happenings
-      by (Knows now) e t = on now (reply-put (known_by older) now (known_by older).held shown e t)
+      by : (o : Outcome Known) → with_reply (known_by older) (known_by older).held shown ≡ o → has_copy (after_outcome (known_by older) o).held ≡ true
+          → Among (Reads id v) (after_outcome (known_by older) o).happenings
+      by (Goes now) e t = on now (reply-put (known_by older) now (known_by older).held shown e t)
       by CannotBeRead e t = a
       by (Jumps expected first) e t = a
       by (Tears other) e t = a
@@ -296,26 +283,21 @@ module _ (id : ℕ) (v : Version) where
       same : Reads id v ≡ Reads id (record { content = row.content; object_update = row.object_update })
       same = λ i. Reads id (record { content = sym content i; object_update = sym number i })
 
-      judge : (b : Bool) → is_no (cond b (Knows made) (Tears id)) ≡ false → Among (Reads id v) (known_after known (cond b (Knows made) (Tears id))).happenings
+      judge : (b : Bool) → is_no (cond b (Goes made) (Tears id)) ≡ false → Among (Reads id v) (after_outcome known (cond b (Goes made) (Tears id))).happenings
       judge true f = inl same
       judge false f = absurd (true≢false f)
 
       ask : (rows : List ObjectRow) (o : Option ℕ) → o ≡ Some id → is_no (copy_read known rows o (Page (row ∷ []) total update)) ≡ false
-          → Among (Reads id v) (known_after known (copy_read known rows o (Page (row ∷ []) total update))).happenings
+          → Among (Reads id v) (after_outcome known (copy_read known rows o (Page (row ∷ []) total update))).happenings
       ask rows o e f =
           let there : copy_read known rows o (Page (row ∷ []) total update) ≡ row_read known rows id (row ∷ []) = ap (λ (p : Option ℕ). copy_read known rows p (Page (row ∷ []) total update)) e in
-          subst (λ (x : Outcome). Among (Reads id v) (known_after known x).happenings) (sym there)
+          subst (λ (x : Outcome Known). Among (Reads id v) (after_outcome known x).happenings) (sym there)
           (judge (is_of id row (known_of id (rows_after rows known.happenings))) (ap is_no (sym there) ∙ f))
 
       on : (held : Held) → known.held ≡ held → has_copy held ≡ true → is_no (with_reply known held (Page (row ∷ []) total update)) ≡ false
-          → Among (Reads id v) (known_after known (with_reply known held (Page (row ∷ []) total update))).happenings
+          → Among (Reads id v) (after_outcome known (with_reply known held (Page (row ∷ []) total update))).happenings
       on Idle e c f = absurd (true≢false (sym c))
-      on Begun e c f = absurd (true≢false (sym c))
-      on HasToken e c f = absurd (true≢false (sym c))
-      on (HasNumber n) e c f = absurd (true≢false (sym c))
-      on (HasRoot n root) e c f = absurd (true≢false (sym c))
-      on (Lists n listing) e c f = absurd (true≢false (sym c))
-      on (HasPage n listing page) e c f = absurd (true≢false (sym c))
+      on (Loads stage) e c f = absurd (true≢false (sym c))
       on (HasCopy n rows) e c f = ask rows (least_unread known.happenings) asked f
 
   read-in : (turns : List ReplicaTurn) → WasRead turns id v → InCopy turns

@@ -10,13 +10,13 @@ use Rattle.cds_object.specs.declared.event.Event.TheVariants.{ObjAdd, ObjMod, Ob
 use Rattle.cds_catalog.proofs.StepsFind.{none≢some, each-weaker, each-filter}
 use Rattle.cds_load.specs.declared.exchange.Shown.{Shown}
 use Rattle.cds_load.specs.declared.exchange.Shown.TheVariants.{Text, Number, Page, Fault}
-use Rattle.cds_load.specs.Stages.{Held, Idle, Begun, HasToken, HasNumber, HasRoot, Lists, HasPage, HasCopy, Taken, Holds, Unreadable, Torn, taken, copied as load_copied, ReplicaTurn as LoadTurn, Begins as LoadBegins, Shows as LoadShows}
+use Rattle.cds_load.specs.Stages.{Held, Idle, HasCopy, taken, copied as load_copied, ReplicaTurn as LoadTurn, Begins as LoadBegins, Shows as LoadShows, Loads}
 use Rattle.cds_load.specs.Seen.{rows_shown, HasVersion, WasShown as WasLoaded}
 use Rattle.cds_load.proofs.Seen.{copied-shown}
 use Rattle.cds_commands.specs.Notes.{Note, changes_above}
 use Rattle.cds_follow.specs.Copy.{Version, KnownRow, known_row, shown_row, counted, added_row, put_known, changed, newer, read_anew, Happening, Changes, Reads, rows_after, counts_addition, counts_modification, counts_deletion, parent_in, known_of, least_unread}
 use Rattle.cds_follow.specs.Inbox.{ReplicaTurn, Begins, Shows, Requests, Accepts, Refuses, Delivers, taken_by}
-use Rattle.cds_follow.specs.Follow.{Known, position, Outcome, Knows, CannotBeRead, Jumps, Tears, first_torn, judged, counted_from, with_changes, load_begun, new_changes, is_drop, dropped, heard_of, with_notes, loaded, is_of, row_read, copy_read, with_reply, known_after, known_by, is_refused, rows_held}
+use Rattle.cds_follow.specs.Follow.{Known, position, first_torn, judged, counted_from, with_changes, load_begun, new_changes, is_drop, dropped, heard_of, with_notes, loaded, is_of, row_read, copy_read, with_reply, known_by, is_refused, rows_held}
 use Rattle.cds_follow.specs.KnownLaws.{has_copy}
 use Rattle.cds_follow.specs.ServerLaws.{befalling}
 use Rattle.cds_follow.specs.LoadTurns.{load_turns}
@@ -24,6 +24,7 @@ use Rattle.cds_follow.specs.Seen.{WasShown, copied_rows_were_shown}
 use Rattle.cds_follow.proofs.Heard.{knows-is}
 use Rattle.cds_follow.proofs.LoadTurns.{loads-are-of-turns}
 use Rattle.cds_object.specs.Events.{update_of}
+use Rattle.cds_load.specs.Outcome.{Outcome, Goes, CannotBeRead, Jumps, Tears, after_outcome}
 
 -- the row of an object, with a version of it
 abbrev row_of_version : ℕ → Option ℕ → Version → Option Trackers → ObjectRow
@@ -162,7 +163,7 @@ module _ (P : ObjectRow → Type 0) where
   abbrev AreRead : Known → Type 0
   AreRead known = AllByRecursion (Read_of P) known.happenings
 
-  read-by : (made now : Known) → Knows made ≡ Knows now → AreRead made → AreRead now
+  read-by : (made now : Known) → Goes made ≡ Goes now → AreRead made → AreRead now
   read-by made now e r = subst AreRead (knows-is made now e) r
 
   befalling-read : (events : List Event) (older : List Happening) → AllByRecursion (Read_of P) older → AllByRecursion (Read_of P) (befalling events ++ older)
@@ -173,55 +174,46 @@ module _ (P : ObjectRow → Type 0) where
       ∙ append_assoc (befalling events) (Changes event ∷ []) older))
       (befalling-read events (Changes event ∷ older) (tt, r))
 
-  counted-read : (rows : List ObjectRow) (known now : Known) (at : ℕ) (events : List Event) → AreRead known → counted_from rows known at events ≡ Knows now → AreRead now
+  counted-read : (rows : List ObjectRow) (known now : Known) (at : ℕ) (events : List Event) → AreRead known → counted_from rows known at events ≡ Goes now → AreRead now
   counted-read rows known now at [] r e = read-by known now e r
   counted-read rows known now at (event ∷ events) r e = by (nat_eq (update_of event) (at + 1)) e
     where
-      on : (o : Option ℕ) → judged known (event ∷ events) o ≡ Knows now → AreRead now
+      on : (o : Option ℕ) → judged known (event ∷ events) o ≡ Goes now → AreRead now
       on (Some id) k = absurd (cc)
       on None k = read-by (record known { happenings = befalling (event ∷ events) ++ known.happenings }) now k (befalling-read (event ∷ events) known.happenings r)
 
-      by : (b : Bool) → cond b (judged known (event ∷ events) (first_torn (rows_after rows known.happenings) (event ∷ events))) (Jumps (at + 1) (update_of event)) ≡ Knows now → AreRead now
+      by : (b : Bool) → cond b (judged known (event ∷ events) (first_torn (rows_after rows known.happenings) (event ∷ events))) (Jumps (at + 1) (update_of event)) ≡ Goes now → AreRead now
       by true k = on (first_torn (rows_after rows known.happenings) (event ∷ events)) k
       by false k = absurd (cc)
 
-  changes-read : (held : Held) (known now : Known) (at : ℕ) (events : List Event) → AreRead known → with_changes held known at events ≡ Knows now → AreRead now
+  changes-read : (held : Held) (known now : Known) (at : ℕ) (events : List Event) → AreRead known → with_changes held known at events ≡ Goes now → AreRead now
   changes-read Idle known now at events r e = read-by known now e r
-  changes-read Begun known now at events r e = read-by (record known { kept = known.kept ++ events }) now e r
-  changes-read HasToken known now at events r e = read-by (record known { kept = known.kept ++ events }) now e r
-  changes-read (HasNumber number) known now at events r e = read-by (record known { kept = known.kept ++ events }) now e r
-  changes-read (HasRoot number root) known now at events r e = read-by (record known { kept = known.kept ++ events }) now e r
-  changes-read (Lists number listing) known now at events r e = read-by (record known { kept = known.kept ++ events }) now e r
-  changes-read (HasPage number listing page) known now at events r e = read-by (record known { kept = known.kept ++ events }) now e r
+  changes-read (Loads stage) known now at events r e = read-by (record known { kept = known.kept ++ events }) now e r
   changes-read (HasCopy number rows) known now at events r e = counted-read rows known now at events r e
 
-  notes-read : (notes : List Note) (known : Known) → AreRead known → AreRead (known_after known (with_notes notes known))
+  notes-read : (notes : List Note) (known : Known) → AreRead known → AreRead (after_outcome known (with_notes notes known))
   notes-read notes known r = on (with_changes (dropped notes known).held (dropped notes known) (position known) (new_changes (position known) notes)) refl
     where
       begun : (b : Bool) → AreRead (cond b (load_begun known) known)
       begun true = tt
       begun false = r
 
-      on : (o : Outcome) → with_changes (dropped notes known).held (dropped notes known) (position known) (new_changes (position known) notes) ≡ o
-          → AreRead (known_after known (heard_of notes o))
-      on (Knows made) e = changes-read (dropped notes known).held (dropped notes known) made (position known) (new_changes (position known) notes) (begun (is_drop (position known) notes)) e
+      on : (o : Outcome Known) → with_changes (dropped notes known).held (dropped notes known) (position known) (new_changes (position known) notes) ≡ o
+          → AreRead (after_outcome known (heard_of notes o))
+      on (Goes made) e = changes-read (dropped notes known).held (dropped notes known) made (position known) (new_changes (position known) notes) (begun (is_drop (position known) notes)) e
       on CannotBeRead e = r
       on (Jumps expected first) e = r
       on (Tears id) e = r
 
-  loaded-read : (known now : Known) (t : Taken) → AreRead known → loaded known t ≡ Knows now → AreRead now
-  loaded-read known now Unreadable r e = absurd (cc)
-  loaded-read known now (Torn id) r e = absurd (cc)
-  loaded-read known now (Holds held) r e = by held e
+  loaded-read : (known now : Known) (t : Outcome Held) → AreRead known → loaded known t ≡ Goes now → AreRead now
+  loaded-read known now CannotBeRead r e = absurd (cc)
+  loaded-read known now (Jumps expected first) r e = absurd (cc)
+  loaded-read known now (Tears id) r e = absurd (cc)
+  loaded-read known now (Goes held) r e = by held e
     where
-      by : (h : Held) → loaded known (Holds h) ≡ Knows now → AreRead now
+      by : (h : Held) → loaded known (Goes h) ≡ Goes now → AreRead now
       by Idle k = read-by (record known { held = Idle }) now k r
-      by Begun k = read-by (record known { held = Begun }) now k r
-      by HasToken k = read-by (record known { held = HasToken }) now k r
-      by (HasNumber number) k = read-by (record known { held = HasNumber number }) now k r
-      by (HasRoot number root) k = read-by (record known { held = HasRoot number root }) now k r
-      by (Lists number listing) k = read-by (record known { held = Lists number listing }) now k r
-      by (HasPage number listing page) k = read-by (record known { held = HasPage number listing page }) now k r
+      by (Loads stage) k = read-by (record known { held = Loads stage }) now k r
       by (HasCopy number rows) k =
           counted-read rows (record { held = HasCopy number rows; base = number; last_note = known.last_note; kept = []; happenings = [] }) now number (changes_above number known.kept) tt k
 
@@ -234,7 +226,7 @@ module _ (older : List ReplicaTurn) (shown : Shown) where
   AreNow known = AllByRecursion (Read_of Now) known.happenings
 
   row-now : (known now : Known) (rows : List ObjectRow) (id : ℕ) (page : List ObjectRow) → AreNow known → ((row : ObjectRow) → HasVersion row page → Now row)
-      → row_read known rows id page ≡ Knows now → AreNow now
+      → row_read known rows id page ≡ Goes now → AreNow now
   row-now known now rows id [] r here e = absurd (cc)
   row-now known now rows id (row ∷ next ∷ others) r here e = absurd (cc)
   row-now known now rows id (row ∷ []) r here e = by (known_of id (rows_after rows known.happenings)) e
@@ -245,38 +237,33 @@ module _ (older : List ReplicaTurn) (shown : Shown) where
       made : Known
       made = record known { happenings = Reads id v ∷ known.happenings }
 
-      on : (b c : Bool) → nat_eq row.id id ≡ b → cond (b && c) (Knows made) (Tears id) ≡ Knows now → AreNow now
+      on : (b c : Bool) → nat_eq row.id id ≡ b → cond (b && c) (Goes made) (Tears id) ≡ Goes now → AreNow now
       on true true s k = read-by Now made now k (here (row_of_version id None v None) (inl (eqb-true row.id id s, refl, refl)), r)
       on true false s k = absurd (cc)
       on false c s k = absurd (cc)
 
-      by : (o : Option KnownRow) → cond (is_of id row o) (Knows made) (Tears id) ≡ Knows now → AreNow now
+      by : (o : Option KnownRow) → cond (is_of id row o) (Goes made) (Tears id) ≡ Goes now → AreNow now
       by None k = absurd (cc)
       by (Some before) k = on (nat_eq row.id id) (cond (is_folder row.content) before.folder (not before.folder)) refl k
 
   copy-now : (known now : Known) (rows : List ObjectRow) (o : Option ℕ) (s : Shown) → AreNow known → ((row : ObjectRow) → HasVersion row (rows_shown s) → Now row)
-      → copy_read known rows o s ≡ Knows now → AreNow now
+      → copy_read known rows o s ≡ Goes now → AreNow now
   copy-now known now rows None s r here e = absurd (cc)
   copy-now known now rows (Some id) (Text token) r here e = absurd (cc)
   copy-now known now rows (Some id) (Number number) r here e = absurd (cc)
   copy-now known now rows (Some id) (Page page total update) r here e = row-now known now rows id page r here e
   copy-now known now rows (Some id) (Fault code) r here e = read-by Now known now e r
 
-  reply-now : (known now : Known) (held : Held) → AreNow known → with_reply known held shown ≡ Knows now → AreNow now
+  reply-now : (known now : Known) (held : Held) → AreNow known → with_reply known held shown ≡ Goes now → AreNow now
   reply-now known now Idle r e = absurd (cc)
-  reply-now known now Begun r e = loaded-read Now known now (taken Begun shown) r e
-  reply-now known now HasToken r e = loaded-read Now known now (taken HasToken shown) r e
-  reply-now known now (HasNumber number) r e = loaded-read Now known now (taken (HasNumber number) shown) r e
-  reply-now known now (HasRoot number root) r e = loaded-read Now known now (taken (HasRoot number root) shown) r e
-  reply-now known now (Lists number listing) r e = loaded-read Now known now (taken (Lists number listing) shown) r e
-  reply-now known now (HasPage number listing page) r e = loaded-read Now known now (taken (HasPage number listing page) shown) r e
+  reply-now known now (Loads stage) r e = loaded-read Now known now (taken (Loads stage) shown) r e
   reply-now known now (HasCopy number rows) r e = copy-now known now rows (least_unread known.happenings) shown r (λ row h. inl h) e
 
-  shown-now : (known : Known) → AreNow known → AreNow (known_after known (with_reply known known.held shown))
+  shown-now : (known : Known) → AreNow known → AreNow (after_outcome known (with_reply known known.held shown))
   shown-now known r = by (with_reply known known.held shown) refl
     where
-      by : (o : Outcome) → with_reply known known.held shown ≡ o → AreNow (known_after known o)
-      by (Knows now) e = reply-now known now known.held r e
+      by : (o : Outcome Known) → with_reply known known.held shown ≡ o → AreNow (after_outcome known o)
+      by (Goes now) e = reply-now known now known.held r e
       by CannotBeRead e = r
       by (Jumps expected first) e = r
       by (Tears id) e = r
@@ -311,12 +298,7 @@ copies-shown turns = by (known_by turns).held refl
 
     by : (held : Held) → (known_by turns).held ≡ held → AllByRecursion (WasAll turns) (rows_held held (known_by turns).happenings)
     by Idle e = tt
-    by Begun e = tt
-    by HasToken e = tt
-    by (HasNumber number) e = tt
-    by (HasRoot number root) e = tt
-    by (Lists number listing) e = tt
-    by (HasPage number listing page) e = tt
+    by (Loads stage) e = tt
     by (HasCopy number rows) e =
         shown-holds (WasAll turns) (was-alike turns) (rows_after rows (known_by turns).happenings)
         (after-holds (WasAll turns) (was-alike turns) rows (known_by turns).happenings (loaded-rows number rows e) (reads-shown turns))

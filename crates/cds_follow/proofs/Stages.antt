@@ -8,7 +8,7 @@ use Rattle.cds_load.specs.declared.exchange.Ask.TheVariants.{Token, Number as As
 use Rattle.cds_load.specs.declared.exchange.Shown.{Shown}
 use Rattle.cds_load.specs.declared.exchange.Shown.TheVariants.{Text, Number, Page, Fault}
 use Rattle.cds_load.specs.Server.{Moment, page_size, reply_to, metadata_reply, children_reply, update_of as reply_update}
-use Rattle.cds_load.specs.Stages.{Listing, Waiting, Held, Idle, Begun, HasToken, HasNumber, HasRoot, Lists, HasPage, HasCopy, Holds, Torn, taken, listed, after_page, page_taken, root_taken, listing_of, fits, others_waiting, listed_children, put_rows, put_containers, listed_id}
+use Rattle.cds_load.specs.Stages.{Listing, Waiting, Held, Idle, Begun, HasToken, HasNumber, HasRoot, Lists, HasPage, HasCopy, taken, listed, after_page, page_taken, root_taken, listing_of, fits, others_waiting, listed_children, put_rows, put_containers, listed_id, Loads}
 use Rattle.cds_load.proofs.Honest.{IsGiven, given-more}
 use Rattle.cds_load.proofs.Servers.{StoodAt}
 use Rattle.cds_commands.specs.Commands.{Command, scans_of, AreAccepted}
@@ -18,34 +18,35 @@ use Rattle.cds_follow.specs.ServerLaws.{served}
 use Rattle.cds_commands.proofs.Spanned.{none-told}
 use Rattle.cds_follow.proofs.Served.{risen}
 use Rattle.cds_follow.proofs.CopyOf.{IsCopy, copy-later}
+use Rattle.cds_load.specs.Outcome.{Goes, Tears}
 
 -- ---- the stage of a load
 
 -- a number from which on changes are kept: no number that the load reads is below it
 abbrev pub Bounds : ℕ → ℕ → Held → Type 0
 Bounds q m Idle = Unit {0}
-Bounds q m Begun = q ≤ m
-Bounds q m HasToken = q ≤ m
-Bounds q m (HasNumber number) = q ≤ number
-Bounds q m (HasRoot number root) = q ≤ number
-Bounds q m (Lists number listing) = q ≤ number
-Bounds q m (HasPage number listing page) = q ≤ number
+Bounds q m (Loads Begun) = q ≤ m
+Bounds q m (Loads HasToken) = q ≤ m
+Bounds q m (Loads (HasNumber number)) = q ≤ number
+Bounds q m (Loads (HasRoot number root)) = q ≤ number
+Bounds q m (Loads (Lists number listing)) = q ≤ number
+Bounds q m (Loads (HasPage number listing page)) = q ≤ number
 Bounds q m (HasCopy number rows) = q ≤ number
 
 pub bounds-later : (q m more : ℕ) → m ≤ more → (held : Held) → Bounds q m held → Bounds q more held
 bounds-later q m more l Idle b = tt
-bounds-later q m more l Begun b = omega (arith, l, b)
-bounds-later q m more l HasToken b = omega (arith, l, b)
-bounds-later q m more l (HasNumber number) b = b
-bounds-later q m more l (HasRoot number root) b = b
-bounds-later q m more l (Lists number listing) b = b
-bounds-later q m more l (HasPage number listing page) b = b
+bounds-later q m more l (Loads Begun) b = omega (arith, l, b)
+bounds-later q m more l (Loads HasToken) b = omega (arith, l, b)
+bounds-later q m more l (Loads (HasNumber number)) b = b
+bounds-later q m more l (Loads (HasRoot number root)) b = b
+bounds-later q m more l (Loads (Lists number listing)) b = b
+bounds-later q m more l (Loads (HasPage number listing page)) b = b
 bounds-later q m more l (HasCopy number rows) b = b
 
-holds-is : (a b : Held) → Holds a ≡ Holds b → a ≡ b
+holds-is : (a b : Held) → Goes a ≡ Goes b → a ≡ b
 holds-is a b e = cc
 
-bounds-by : (q m : ℕ) (a held : Held) → Holds a ≡ Holds held → Bounds q m a → Bounds q m held
+bounds-by : (q m : ℕ) (a held : Held) → Goes a ≡ Goes held → Bounds q m a → Bounds q m held
 bounds-by q m a held e b = subst (Bounds q m) (holds-is a held e) b
 
 listed-bounds : (q m number : ℕ) (rows : List ObjectRow) (ws : List Waiting) → q ≤ number → Bounds q m (listed number rows ws)
@@ -57,63 +58,63 @@ page-bounds q m number listing page l = by (nat_eq (length (listing.part ++ page
   where
     by : (b : Bool) → Bounds q m (cond b
         (listed number (put_rows (listing.part ++ page) listing.rows) (put_containers (listing.part ++ page) (others_waiting listing)))
-        (Lists number (record { rows = listing.rows; waiting = listing.waiting; part = listing.part ++ page })))
+        (Loads (Lists number (record { rows = listing.rows; waiting = listing.waiting; part = listing.part ++ page }))))
     by true = listed-bounds q m number (put_rows (listing.part ++ page) listing.rows) (put_containers (listing.part ++ page) (others_waiting listing)) l
     by false = l
 
-root-bounds : (q m number : ℕ) (rows : List ObjectRow) (held : Held) → q ≤ number → root_taken number rows ≡ Holds held → Bounds q m held
+root-bounds : (q m number : ℕ) (rows : List ObjectRow) (held : Held) → q ≤ number → root_taken number rows ≡ Goes held → Bounds q m held
 root-bounds q m number [] held l e = absurd (cc)
 root-bounds q m number (row ∷ next ∷ rows) held l e = absurd (cc)
 root-bounds q m number (row ∷ []) held l e = by (nat_eq row.id 0 && is_folder row.content) e
   where
-    by : (b : Bool) → cond b (Holds (HasRoot number row)) (Torn 0) ≡ Holds held → Bounds q m held
-    by true k = bounds-by q m (HasRoot number row) held k l
+    by : (b : Bool) → cond b (Goes (Loads (HasRoot number row))) (Tears 0) ≡ Goes held → Bounds q m held
+    by true k = bounds-by q m (Loads (HasRoot number row)) held k l
     by false k = absurd (cc)
 
-judged-bounds : (q m number : ℕ) (listing : Listing) (page : Option (List ObjectRow)) (held : Held) → q ≤ number → page_taken number listing page ≡ Holds held → Bounds q m held
+judged-bounds : (q m number : ℕ) (listing : Listing) (page : Option (List ObjectRow)) (held : Held) → q ≤ number → page_taken number listing page ≡ Goes held → Bounds q m held
 judged-bounds q m number listing None held l e = absurd (cc)
 judged-bounds q m number listing (Some page) held l e = by (fits listing page) e
   where
-    by : (b : Bool) → cond b (Holds (after_page number listing page)) (Torn (listed_id listing)) ≡ Holds held → Bounds q m held
+    by : (b : Bool) → cond b (Goes (after_page number listing page)) (Tears (listed_id listing)) ≡ Goes held → Bounds q m held
     by true k = bounds-by q m (after_page number listing page) held k (page-bounds q m number listing page l)
     by false k = absurd (cc)
 
 -- a reply leaves the bound, where a number that it shows is not below it
-pub taken-bounds : (q m : ℕ) (before held : Held) (shown : Shown) → q ≤ m → ((n : ℕ) → shown ≡ Number n → q ≤ n) → Bounds q m before → taken before shown ≡ Holds held → Bounds q m held
+pub taken-bounds : (q m : ℕ) (before held : Held) (shown : Shown) → q ≤ m → ((n : ℕ) → shown ≡ Number n → q ≤ n) → Bounds q m before → taken before shown ≡ Goes held → Bounds q m held
 taken-bounds q m Idle held shown l n b e = absurd (cc)
-taken-bounds q m Begun held (Text token) l n b e = bounds-by q m HasToken held e l
-taken-bounds q m Begun held (Number number) l n b e = absurd (cc)
-taken-bounds q m Begun held (Page rows total update) l n b e = absurd (cc)
-taken-bounds q m Begun held (Fault code) l n b e = absurd (cc)
-taken-bounds q m HasToken held (Text token) l n b e = absurd (cc)
-taken-bounds q m HasToken held (Number number) l n b e = bounds-by q m (HasNumber number) held e (n number refl)
-taken-bounds q m HasToken held (Page rows total update) l n b e = absurd (cc)
-taken-bounds q m HasToken held (Fault code) l n b e = absurd (cc)
-taken-bounds q m (HasNumber number) held (Text token) l n b e = absurd (cc)
-taken-bounds q m (HasNumber number) held (Number other) l n b e = absurd (cc)
-taken-bounds q m (HasNumber number) held (Page rows total update) l n b e = root-bounds q m number rows held b e
-taken-bounds q m (HasNumber number) held (Fault code) l n b e = absurd (cc)
-taken-bounds q m (HasRoot number root) held (Text token) l n b e = absurd (cc)
-taken-bounds q m (HasRoot number root) held (Number other) l n b e =
-    bounds-by q m (cond (nat_eq other number) (Lists number (listing_of root)) Begun) held e (by (nat_eq other number))
+taken-bounds q m (Loads Begun) held (Text token) l n b e = bounds-by q m (Loads HasToken) held e l
+taken-bounds q m (Loads Begun) held (Number number) l n b e = absurd (cc)
+taken-bounds q m (Loads Begun) held (Page rows total update) l n b e = absurd (cc)
+taken-bounds q m (Loads Begun) held (Fault code) l n b e = absurd (cc)
+taken-bounds q m (Loads HasToken) held (Text token) l n b e = absurd (cc)
+taken-bounds q m (Loads HasToken) held (Number number) l n b e = bounds-by q m (Loads (HasNumber number)) held e (n number refl)
+taken-bounds q m (Loads HasToken) held (Page rows total update) l n b e = absurd (cc)
+taken-bounds q m (Loads HasToken) held (Fault code) l n b e = absurd (cc)
+taken-bounds q m (Loads (HasNumber number)) held (Text token) l n b e = absurd (cc)
+taken-bounds q m (Loads (HasNumber number)) held (Number other) l n b e = absurd (cc)
+taken-bounds q m (Loads (HasNumber number)) held (Page rows total update) l n b e = root-bounds q m number rows held b e
+taken-bounds q m (Loads (HasNumber number)) held (Fault code) l n b e = absurd (cc)
+taken-bounds q m (Loads (HasRoot number root)) held (Text token) l n b e = absurd (cc)
+taken-bounds q m (Loads (HasRoot number root)) held (Number other) l n b e =
+    bounds-by q m (cond (nat_eq other number) (Loads (Lists number (listing_of root))) (Loads Begun)) held e (by (nat_eq other number))
   where
-    by : (c : Bool) → Bounds q m (cond c (Lists number (listing_of root)) Begun)
+    by : (c : Bool) → Bounds q m (cond c (Loads (Lists number (listing_of root))) (Loads Begun))
     by true = b
     by false = l
-taken-bounds q m (HasRoot number root) held (Page rows total update) l n b e = absurd (cc)
-taken-bounds q m (HasRoot number root) held (Fault code) l n b e = absurd (cc)
-taken-bounds q m (Lists number listing) held (Text token) l n b e = absurd (cc)
-taken-bounds q m (Lists number listing) held (Number other) l n b e = absurd (cc)
-taken-bounds q m (Lists number listing) held (Page rows total update) l n b e = bounds-by q m (HasPage number listing (Some rows)) held e b
-taken-bounds q m (Lists number listing) held (Fault code) l n b e = bounds-by q m (HasPage number listing None) held e b
-taken-bounds q m (HasPage number listing page) held (Text token) l n b e = absurd (cc)
-taken-bounds q m (HasPage number listing page) held (Number other) l n b e = by (nat_eq other number) e
+taken-bounds q m (Loads (HasRoot number root)) held (Page rows total update) l n b e = absurd (cc)
+taken-bounds q m (Loads (HasRoot number root)) held (Fault code) l n b e = absurd (cc)
+taken-bounds q m (Loads (Lists number listing)) held (Text token) l n b e = absurd (cc)
+taken-bounds q m (Loads (Lists number listing)) held (Number other) l n b e = absurd (cc)
+taken-bounds q m (Loads (Lists number listing)) held (Page rows total update) l n b e = bounds-by q m (Loads (HasPage number listing (Some rows))) held e b
+taken-bounds q m (Loads (Lists number listing)) held (Fault code) l n b e = bounds-by q m (Loads (HasPage number listing None)) held e b
+taken-bounds q m (Loads (HasPage number listing page)) held (Text token) l n b e = absurd (cc)
+taken-bounds q m (Loads (HasPage number listing page)) held (Number other) l n b e = by (nat_eq other number) e
   where
-    by : (c : Bool) → cond c (page_taken number listing page) (Holds Begun) ≡ Holds held → Bounds q m held
+    by : (c : Bool) → cond c (page_taken number listing page) (Goes (Loads Begun)) ≡ Goes held → Bounds q m held
     by true k = judged-bounds q m number listing page held b k
-    by false k = bounds-by q m Begun held k l
-taken-bounds q m (HasPage number listing page) held (Page rows total update) l n b e = absurd (cc)
-taken-bounds q m (HasPage number listing page) held (Fault code) l n b e = absurd (cc)
+    by false k = bounds-by q m (Loads Begun) held k l
+taken-bounds q m (Loads (HasPage number listing page)) held (Page rows total update) l n b e = absurd (cc)
+taken-bounds q m (Loads (HasPage number listing page)) held (Fault code) l n b e = absurd (cc)
 taken-bounds q m (HasCopy number rows) held shown l n b e = absurd (cc)
 
 -- the number that a reply shows is the server's
@@ -164,12 +165,7 @@ pub record IsLoading (token : List ℕ) (first : ℕ) (commands : List Command) 
 
 abbrev pub Stage : List ℕ → ℕ → List Command → ℕ → Held → Known → Type 0
 Stage token first commands k Idle known = Unit {0}
-Stage token first commands k Begun known = IsLoading token first commands k Begun known
-Stage token first commands k HasToken known = IsLoading token first commands k HasToken known
-Stage token first commands k (HasNumber number) known = IsLoading token first commands k (HasNumber number) known
-Stage token first commands k (HasRoot number root) known = IsLoading token first commands k (HasRoot number root) known
-Stage token first commands k (Lists number listing) known = IsLoading token first commands k (Lists number listing) known
-Stage token first commands k (HasPage number listing page) known = IsLoading token first commands k (HasPage number listing page) known
+Stage token first commands k (Loads stage) known = IsLoading token first commands k (Loads stage) known
 Stage token first commands k (HasCopy number rows) known = (known.base ≡ number) × IsCopy token first commands k number rows known.happenings (position known)
 
 -- what a replica knows of an honest server at a length
@@ -217,12 +213,7 @@ module _ (token : List ℕ) (first : ℕ) (commands : List Command) (accepted : 
 
   stage-later : (j k : ℕ) (held : Held) (known : Known) → j ≤ k → Stage token first commands j held known → Stage token first commands k held known
   stage-later j k Idle known l s = tt
-  stage-later j k Begun known l s = loading-later j k Begun known l s
-  stage-later j k HasToken known l s = loading-later j k HasToken known l s
-  stage-later j k (HasNumber number) known l s = loading-later j k (HasNumber number) known l s
-  stage-later j k (HasRoot number root) known l s = loading-later j k (HasRoot number root) known l s
-  stage-later j k (Lists number listing) known l s = loading-later j k (Lists number listing) known l s
-  stage-later j k (HasPage number listing page) known l s = loading-later j k (HasPage number listing page) known l s
+  stage-later j k (Loads stage) known l s = loading-later j k (Loads stage) known l s
   stage-later j k (HasCopy number rows) known l s = (s.0, copy-later token first commands accepted j k number rows known.happenings (position known) l s.1)
 
   given-later : (j k : ℕ) (held : Held) → j ≤ k → IsGiven (StoodAt (served token first commands) j) held → IsGiven (StoodAt (served token first commands) k) held

@@ -1,16 +1,21 @@
 -- Replicas and servers evaluated from the definitions. The replicas are of an honest server, except for notes that no honest
 -- server sends if a row says so.
-use Rattle.std.specs.Prelude.{◌≡◌, ℕ, List, [], ◌∷◌, map, None, Some, codes, true, false}
+use Rattle.std.specs.Prelude.{◌≡◌, ℕ, Bool, List, [], ◌∷◌, map, None, Some, codes, true, false}
 use Rattle.cds_catalog.specs.Examples.{Outline, outline}
 use Rattle.cds_object.specs.declared.event.Class.TheVariants.{Track}
 use Rattle.cds_load.specs.declared.exchange.Ask.TheVariants.{Token, Metadata}
 use Rattle.cds_object.specs.declared.event.Event.TheVariants.{ObjAdd, ObjMod, ObjDel}
-use Rattle.cds_commands.specs.Commands.{Command, Scans, Grants, Ends, Ticks, AreAccepted}
+use Rattle.cds_commands.specs.Commands.{Start, Command, Scans, Grants, Ends, Ticks, AreAccepted}
+use Rattle.cds_commands.specs.Names.{name_of}
 use Rattle.cds_commands.specs.Notes.{Note, notes_of}
 use Rattle.cds_commands.specs.Examples.{one, another, two, first, added, added_other}
 use Rattle.cds_follow.specs.Inbox.{ReplicaTurn, Requests, Accepts, Delivers, received, held_notes, taken_by}
-use Rattle.cds_follow.specs.Follow.{Jumps, Tears, position, with_notes, known_by, next_ask, copied, says, and_turn, is_refused}
-use Rattle.cds_follow.specs.Given.{Entry, Starts, Asks, Calls, Granted, Gets, given_by, IsGiven}
+use Rattle.cds_load.specs.Outcome.{Jumps, Tears}
+use Rattle.cds_follow.specs.Copy.{Happening, Changes, Reads}
+use Rattle.cds_follow.specs.CourseLaws.{stands_by, course_of}
+use Rattle.cds_follow.specs.Follow.{position, with_notes, known_by, next_ask, copied, says, and_turn, is_refused}
+use Rattle.cds_follow.specs.Given.{Entry, Starts, Asks, Calls, Granted, Gets, given_by, IsGiven, grants_of}
+use Rattle.cds_follow.specs.Named.{TellApart}
 use Rattle.cds_follow.specs.declared.says.Says.{Says}
 use Rattle.cds_follow.specs.declared.says.Says.TheVariants.{Gap, BehindLoad, BehindRead, BehindVersion, Stands}
 
@@ -71,6 +76,21 @@ read_ahead_of_notes =
     × (says (given_by a_token 0 track_changes (Asks 4 ∷ Gets 4 added ∷ prepared)) ≡ BehindVersion 2)
     × Known (given_by a_token 0 track_changes (Gets 5 modified ∷ Asks 4 ∷ Gets 4 added ∷ prepared)) (Stands 2)
     ((0, None, 0, 2 ∷ 1 ∷ 0 ∷ []) ∷ (1, Some 0, 2, []) ∷ [])
+
+-- a read stands above the addition whose note came before its reply, and below the modification whose note came after it. By the
+-- replies alone the copy stands, and the load that was begun last ended at 0
+abbrev pub is_read : Happening → Bool
+is_read (Changes event) = false
+is_read (Reads id version) = true
+
+abbrev pub read_between_notes : List ReplicaTurn
+read_between_notes = given_by a_token 0 track_changes (Gets 5 modified ∷ Asks 4 ∷ Gets 4 added ∷ prepared)
+
+abbrev pub reads_stand_between_notes : Type 0
+reads_stand_between_notes =
+    (map is_read (known_by read_between_notes).happenings ≡ false ∷ true ∷ false ∷ [])
+    × (stands_by (course_of read_between_notes).attempt ≡ true) × ((course_of read_between_notes).base ≡ 0)
+    × ((course_of read_between_notes).last_note ≡ 2)
 
 -- notes that no honest server sends, taken at once, are judged as one. Only the first change above the position has to be the
 -- next one, and this is judged before what cannot be
@@ -164,6 +184,11 @@ changes_are_not_counted_again =
     × Known (given_by a_token 0 came_and_went (Gets 4 overlaps ∷ Granted 3 1 ∷ Gets 3 first_early ∷ Calls 2 ∷ Asks 2 ∷ Asks 2 ∷ Asks 2 ∷ Asks 2 ∷ Asks 2 ∷ Asks 2 ∷ Starts 2 ∷ []))
     (Stands 2) ((0, None, 0, 2 ∷ 0 ∷ 1 ∷ []) ∷ [])
 
--- the premises of the laws on honest servers hold of the notes out of order
+-- the premises of the laws on honest servers hold of the notes out of order, with the names of a server whose boot words are 0
+abbrev pub a_start : Start
+a_start = record { high = 0; low = 0; first = 0 }
+
 abbrev pub premises_hold : Type 0
-premises_hold = AreAccepted 0 tracks_come × IsGiven a_token 0 tracks_come (Asks 5 ∷ Asks 5 ∷ Gets 5 added ∷ Gets 5 added_other ∷ prepared)
+premises_hold =
+    AreAccepted 0 tracks_come × IsGiven a_token 0 tracks_come (Asks 5 ∷ Asks 5 ∷ Gets 5 added ∷ Gets 5 added_other ∷ prepared)
+    × TellApart (name_of a_start) (grants_of tracks_come)

@@ -1,8 +1,7 @@
 -- What an honest server that accepted these commands gives a replica: its replies and notes.
 use Rattle.std.specs.Prelude.{◌≡◌, ◌<◌, ◌≤◌, ℕ, true, List, [], ◌∷◌, Option, Some, None, Contains}
-use Rattle.cds_catalog.specs.History.{end_of}
-use Rattle.cds_catalog.specs.Catalog.{catalog}
-use Rattle.cds_load.specs.Server.{Moment, reply_to}
+use Rattle.std.specs.List.{range_with_len}
+use Rattle.cds_load.specs.Server.{Moment, moment_at, reply_to}
 use Rattle.cds_load.specs.declared.exchange.Ask.{Ask}
 use Rattle.cds_commands.specs.Commands.{Command, scans_of, oldest}
 use Rattle.cds_commands.specs.Notes.{Note, notes_of}
@@ -12,11 +11,11 @@ use Rattle.cds_follow.specs.Follow.{known_by, next_ask, and_turn}
 
 -- what a server of a reset token that accepted commands has, after a first number
 abbrev pub moment_after : List ℕ → ℕ → List Command → Moment
-moment_after token first commands = record {
-  token = token;
-  number = end_of (scans_of first commands);
-  rows = catalog (scans_of first commands);
-}
+moment_after token first commands = moment_at token (scans_of first commands)
+
+-- the numbers of the subscriptions that commands granted
+abbrev pub grants_of : List Command → List ℕ
+grants_of commands = range_with_len 1 (granted commands)
 
 -- what a replica did, each at a length of the list of the server's commands: it began a load; its next ask was answered; its
 -- subscribe request went out; the reply to it came, with a name or with a refusal; a note was delivered

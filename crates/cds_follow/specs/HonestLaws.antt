@@ -5,13 +5,14 @@ use Rattle.std.specs.Prelude.{◌≡◌, ◌≤◌, ◌||◌, ℕ, Bool, true, f
 use Rattle.std.specs.List.{AllByRecursion}
 use Rattle.cds_catalog.specs.History.{end_of}
 use Rattle.cds_catalog.specs.Catalog.{catalog}
+use Rattle.cds_load.specs.Outcome.{Goes}
 use Rattle.cds_load.specs.Server.{reply_to}
 use Rattle.cds_load.specs.declared.exchange.Ask.{Ask}
 use Rattle.cds_commands.specs.Commands.{Command, scans_of, oldest, AreAccepted}
 use Rattle.cds_commands.specs.Notes.{Note, alive_names, notes_of}
 use Rattle.cds_commands.specs.Releases.{released_to, releases_of}
 use Rattle.cds_follow.specs.Inbox.{ReplicaTurn, Begins, Shows, Requests, Accepts, Refuses, Delivers, accepted, received, has_seq, taken_by, IsTooMany, arrival}
-use Rattle.cds_follow.specs.Follow.{Known, Knows, position, is_drop, known_by, next_ask, with_reply, with_notes, says, copied}
+use Rattle.cds_follow.specs.Follow.{Known, position, is_drop, known_by, next_ask, with_reply, with_notes, says, copied}
 use Rattle.cds_follow.specs.Given.{moment_after, Entry, Starts, Asks, Calls, Granted, Denied, Gets, length_at, given_by, IsGiven}
 use Rattle.cds_follow.specs.declared.says.Says.TheVariants.{Stands}
 
@@ -21,11 +22,11 @@ abbrev pub IsTaken : List ℕ → ℕ → List Command → Entry → List Replic
 IsTaken token first commands (Starts k) turns = Unit {0}
 IsTaken token first commands (Asks k) turns =
     (ask : Ask) → next_ask (known_by turns) ≡ Some ask →
-    (now : Known) × (with_reply (known_by turns) (known_by turns).held (reply_to (moment_after token first (oldest k commands)) ask) ≡ Knows now)
+    (now : Known) × (with_reply (known_by turns) (known_by turns).held (reply_to (moment_after token first (oldest k commands)) ask) ≡ Goes now)
 IsTaken token first commands (Calls k) turns = Unit {0}
-IsTaken token first commands (Granted k name) turns = (now : Known) × (with_notes (taken_by (Accepts name) turns) (known_by turns) ≡ Knows now)
+IsTaken token first commands (Granted k name) turns = (now : Known) × (with_notes (taken_by (Accepts name) turns) (known_by turns) ≡ Goes now)
 IsTaken token first commands (Denied k) turns = Unit {0}
-IsTaken token first commands (Gets k note) turns = (now : Known) × (with_notes (taken_by (Delivers note) turns) (known_by turns) ≡ Knows now)
+IsTaken token first commands (Gets k note) turns = (now : Known) × (with_notes (taken_by (Delivers note) turns) (known_by turns) ≡ Goes now)
 
 -- of an honest server each reply can be read, and each reply and each note jumps over no change and tells only what can be
 abbrev pub honest_calls_are_taken : Type 0

@@ -3,13 +3,14 @@
 use Rattle.std.specs.Prelude.{◌≡◌, ◌≤◌, ◌&&◌, ℕ, Bool, true, false, cond, not, max, List, [], ◌∷◌, ◌++◌, length}
 use Rattle.cds_object.specs.Object.{ObjectRow}
 use Rattle.cds_object.specs.declared.event.Event.{Event}
-use Rattle.cds_load.specs.Stages.{Held, Idle, Begun, HasToken, HasNumber, HasRoot, Lists, HasPage, HasCopy}
+use Rattle.cds_load.specs.Outcome.{Goes, is_no}
+use Rattle.cds_load.specs.Stages.{Held, Idle, Loads, HasCopy}
 use Rattle.cds_load.specs.declared.exchange.Shown.{Shown}
 use Rattle.cds_load.specs.declared.exchange.Shown.TheVariants.{Text, Number, Page, Fault}
 use Rattle.cds_commands.specs.Notes.{Note, changes_above}
 use Rattle.cds_follow.specs.Copy.{Happening, Changes, Reads}
 use Rattle.cds_follow.specs.Inbox.{ReplicaTurn, Begins, Shows, Requests, Accepts, Refuses, Delivers, held_notes, held_limit, taken_by}
-use Rattle.cds_follow.specs.Follow.{Known, Knows, position, new_changes, greatest_of, is_drop, with_notes, known_by, is_no, is_refused}
+use Rattle.cds_follow.specs.Follow.{Known, position, new_changes, greatest_of, is_drop, with_notes, known_by, is_refused}
 
 -- all notes that were taken, the oldest first; a turn that is refused takes none
 abbrev pub taken_notes : List ReplicaTurn → List Note
@@ -23,12 +24,7 @@ position_is_the_greatest = (turns : List ReplicaTurn) → position (known_by tur
 -- whether a copy stands
 abbrev pub has_copy : Held → Bool
 has_copy Idle = false
-has_copy Begun = false
-has_copy HasToken = false
-has_copy (HasNumber number) = false
-has_copy (HasRoot number root) = false
-has_copy (Lists number listing) = false
-has_copy (HasPage number listing page) = false
+has_copy (Loads stage) = false
 has_copy (HasCopy number rows) = true
 
 -- the number that a reply showed, and that of a turn; 0 if it showed none
@@ -85,7 +81,7 @@ counted_changes_are_fresh = (turns : List ReplicaTurn) (number : ℕ) (rows : Li
 
 -- notes that are taken leave a load, and the rows that a copy's load read, as they are, except a first note that drops them
 abbrev pub notes_leave_the_load : Type 0
-notes_leave_the_load = (notes : List Note) (known now : Known) → with_notes notes known ≡ Knows now → is_drop (position known) notes ≡ false →
+notes_leave_the_load = (notes : List Note) (known now : Known) → with_notes notes known ≡ Goes now → is_drop (position known) notes ≡ false →
     (now.held ≡ known.held) × (now.base ≡ known.base)
 
 -- turns none of which is refused, as those of a replica are

@@ -1,4 +1,5 @@
 pub mod Copy
+pub mod CourseLaws
 pub mod Examples
 pub mod Follow
 pub mod Given
@@ -8,6 +9,7 @@ pub mod InboxLaws
 pub mod KnownLaws
 pub mod LoadTurns
 pub mod Named
+pub mod OrderLaws
 pub mod Seen
 pub mod ServerLaws
 pub mod StepLaws

@@ -22,6 +22,11 @@ pub fn read_ahead_of_notes()
     ensures { examples.read_ahead_of_notes }
 {}
 
+/// States that a read stands among the changes of notes where its reply came, and what the replies alone tell of the load.
+pub fn reads_stand_between_notes()
+    ensures { examples.reads_stand_between_notes }
+{}
+
 /// States that notes that are taken at once are judged as one.
 pub fn notes_taken_at_once()
     ensures { examples.notes_taken_at_once }
@@ -48,7 +53,7 @@ pub fn changes_are_not_counted_again()
     ensures { examples.changes_are_not_counted_again }
 {}
 
-/// States that the premises of the laws on honest servers hold of a replica that is given notes out of order.
+/// States that the premises of the laws on honest servers, and on their names, hold of a replica that is given notes out of order.
 pub fn premises_hold()
     ensures { examples.premises_hold }
 {}

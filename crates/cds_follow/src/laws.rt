@@ -1,10 +1,12 @@
 //! Laws of notes: each function's contract is one of them, and calling it gives the law.
 
+ghost use Rattle.cds_follow.specs.CourseLaws as course;
 ghost use Rattle.cds_follow.specs.HonestLaws as honest;
 ghost use Rattle.cds_follow.specs.InboxLaws as inbox;
 ghost use Rattle.cds_follow.specs.KnownLaws as known;
 ghost use Rattle.cds_follow.specs.LoadTurns as loads;
 ghost use Rattle.cds_follow.specs.Named as named;
+ghost use Rattle.cds_follow.specs.OrderLaws as order;
 ghost use Rattle.cds_follow.specs.Seen as seen;
 ghost use Rattle.cds_follow.specs.ServerLaws as server;
 ghost use Rattle.cds_follow.specs.StepLaws as steps;
@@ -142,6 +144,18 @@ pub fn received_notes_came()
 /// ended.
 pub fn reads_are_replies()
     ensures { seen.reads_are_replies }
+{}
+
+/// States that what befell a copy stands in the order of the turns. So a read stands above a change exactly if its reply came
+/// after the note of the change.
+pub fn happenings_are_in_order()
+    ensures { order.happenings_are_in_order }
+{}
+
+/// States that the attempt of a load, whether a copy stands, the number that the last ended load read and the position go by the
+/// replies and the taken notes alone, if no turn is refused and replies show rows.
+pub fn loads_go_by_replies()
+    ensures { course.loads_go_by_replies }
 {}
 
 /// States that what a replica knows, says and refuses is the same under any names that tell subscriptions apart.

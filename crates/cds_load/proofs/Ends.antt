@@ -7,7 +7,7 @@ use Rattle.cds_object.specs.Object.{ObjectRow, is_folder}
 use Rattle.cds_object.specs.Tree.{row_of, children_of, IsTree}
 use Rattle.cds_load.specs.declared.exchange.Ask.TheVariants.{Number as AskNumber, Metadata, Children}
 use Rattle.cds_load.specs.Server.{Moment, page_size, reply_to, metadata_reply, children_reply}
-use Rattle.cds_load.specs.Stages.{BehindLoad, Waiting, Listing, Held, Idle, Begun, HasToken, HasNumber, HasRoot, Lists, HasPage, HasCopy, Holds, Torn, listing_of, listed, listed_id, listed_children, others_waiting, fits, after_page, page_taken, taken, held_after, next_ask, says, put_rows, put_containers}
+use Rattle.cds_load.specs.Stages.{BehindLoad, Waiting, Listing, Held, Idle, Begun, HasToken, HasNumber, HasRoot, Lists, HasPage, HasCopy, listing_of, listed, listed_id, listed_children, others_waiting, fits, after_page, page_taken, taken, next_ask, says, put_rows, put_containers, Loads}
 use Rattle.cds_load.specs.Loads.{load_reads, read_once, reads}
 use Rattle.cds_load.proofs.Trees.{found-id, folder-found, ascend-rises}
 use Rattle.cds_load.proofs.Frontier.{known, waiting_at}
@@ -18,6 +18,7 @@ use Rattle.cds_load.proofs.Listings.{IsListing, page-fits}
 use Rattle.cds_load.proofs.Honest.{root-lists, root-first}
 use Rattle.cds_load.proofs.Replies.{page-of}
 use Rattle.cds_load.proofs.Counts.{pages_from, from-first, pages-here, pages-first, pages-none, own-pages}
+use Rattle.cds_load.specs.Outcome.{Goes, Tears, after_outcome}
 
 -- a listing with so many whole pages of its first container shown, and so many reads to go
 pub record Lasts (rows : List ObjectRow) (l : Listing) (left : ℕ) : Type 0 where
@@ -29,12 +30,12 @@ pub record Lasts (rows : List ObjectRow) (l : Listing) (left : ℕ) : Type 0 whe
 -- how many reads a load has to go
 abbrev pub Left : Moment → Held → ℕ → Type 0
 Left m Idle n = ⊥
-Left m Begun n = n ≡ load_reads m.rows
-Left m HasToken n = n + 1 ≡ load_reads m.rows
-Left m (HasNumber number) n = (number ≡ m.number) × (n + 2 ≡ load_reads m.rows)
-Left m (HasRoot number root) n = (number ≡ m.number) × (row_of 0 m.rows ≡ Some root) × (n + 3 ≡ load_reads m.rows)
-Left m (Lists number l) n = (number ≡ m.number) × Lasts m.rows l n
-Left m (HasPage number l page) n =
+Left m (Loads Begun) n = n ≡ load_reads m.rows
+Left m (Loads HasToken) n = n + 1 ≡ load_reads m.rows
+Left m (Loads (HasNumber number)) n = (number ≡ m.number) × (n + 2 ≡ load_reads m.rows)
+Left m (Loads (HasRoot number root)) n = (number ≡ m.number) × (row_of 0 m.rows ≡ Some root) × (n + 3 ≡ load_reads m.rows)
+Left m (Loads (Lists number l)) n = (number ≡ m.number) × Lasts m.rows l n
+Left m (Loads (HasPage number l page)) n =
     (number ≡ m.number) × (lasts : Lasts m.rows l (n + 1)) × (page ≡ Some (take page_size (drop (length l.part) (children_of lasts.of.first.id m.rows))))
 Left m (HasCopy number rows) n = (n ≡ 0) × (number ≡ m.number) × (rows ≡ m.rows)
 
@@ -114,7 +115,7 @@ module _ (m : Moment) (tree : IsTree m.rows) where
       whole = listed m.number (put_rows (l.part ++ page) l.rows) (put_containers (l.part ++ page) (others_waiting l))
 
       partly : Held
-      partly = Lists m.number (record { rows = l.rows; waiting = l.waiting; part = l.part ++ page })
+      partly = Loads (Lists m.number (record { rows = l.rows; waiting = l.waiting; part = l.part ++ page }))
 
       test : nat_eq (length (l.part ++ page)) (listed_children l) ≡ nat_eq (length more) (length kids)
       test = λ i. nat_eq (length (joined i)) (own_count i)
@@ -172,17 +173,17 @@ module _ (m : Moment) (tree : IsTree m.rows) where
   -- a read that a load has to go is one less to go
   pub read-left : (held : Held) (n : ℕ) → Left m held (suc n) → Left m (read_once m held) n
   read-left Idle n left = left
-  read-left Begun n left = omega (arith, left)
-  read-left HasToken n left = (refl, omega (arith, left))
-  read-left (HasNumber number) n left =
+  read-left (Loads Begun) n left = omega (arith, left)
+  read-left (Loads HasToken) n left = (refl, omega (arith, left))
+  read-left (Loads (HasNumber number)) n left =
       let root = folder-found (row_of 0 m.rows) tree.rooted in
-      let holds : taken (HasNumber number) (reply_to m (Metadata 0)) ≡ Holds (HasRoot number root.0) =
-      ap (λ o. taken (HasNumber number) (metadata_reply m o)) root.1
-      ∙ ap (λ b. cond b (Holds (HasRoot number root.0)) (Torn 0)) (and_from _ _ (eq-eqb root.0.id 0 (found-id 0 m.rows root.0 root.1)) root.2) in
-      subst (λ t. Left m (held_after (HasNumber number) t) n) (sym holds) (left.0, root.1, omega (arith, left.1))
-  read-left (HasRoot number root) n left =
-      let lists : cond (nat_eq m.number number) (Lists number (listing_of root)) Begun ≡ Lists number (listing_of root) =
-      ap (λ b. cond b (Lists number (listing_of root)) Begun) (eq-eqb m.number number (sym left.0)) in
+      let holds : taken (Loads (HasNumber number)) (reply_to m (Metadata 0)) ≡ Goes (Loads (HasRoot number root.0)) =
+      ap (λ o. taken (Loads (HasNumber number)) (metadata_reply m o)) root.1
+      ∙ ap (λ b. cond b (Goes (Loads (HasRoot number root.0))) (Tears 0)) (and_from _ _ (eq-eqb root.0.id 0 (found-id 0 m.rows root.0 root.1)) root.2) in
+      subst (λ t. Left m (after_outcome (Loads (HasNumber number)) t) n) (sym holds) (left.0, root.1, omega (arith, left.1))
+  read-left (Loads (HasRoot number root)) n left =
+      let lists : cond (nat_eq m.number number) (Loads (Lists number (listing_of root))) (Loads Begun) ≡ Loads (Lists number (listing_of root)) =
+      ap (λ b. cond b (Loads (Lists number (listing_of root))) (Loads Begun)) (eq-eqb m.number number (sym left.0)) in
       let of : IsListing m.rows (listing_of root) = root-lists m.rows tree root left.1 in
       let first : of.first.id ≡ 0 = root-first m.rows tree root left.1 in
       subst (λ (h : Held). Left m h n) (sym lists) (
@@ -197,49 +198,44 @@ module _ (m : Moment) (tree : IsTree m.rows) where
               omega (arith, all, same, left.2);
         },
       )
-  read-left (Lists number l) n left =
+  read-left (Loads (Lists number l)) n left =
       let lasts : Lasts m.rows l (suc n) = left.1 in
       let o = own l (suc n) lasts in
       let listed : listed_id l ≡ lasts.of.first.id = ap (λ v. listed_id (record l { waiting = v })) lasts.of.waiting in
       let page : List ObjectRow = take page_size (drop (length l.part) (children_of lasts.of.first.id m.rows)) in
-      let holds : taken (Lists number l) (reply_to m (Children (listed_id l) (length l.part))) ≡ Holds (HasPage number l (Some page)) =
-      ap (λ v. taken (Lists number l) (children_reply m (length l.part) v)) (ap (λ k. row_of k m.rows) listed ∙ o.3)
-      ∙ ap (taken (Lists number l)) (page-of m (length l.part) o.0 o.2)
-      ∙ (λ i. Holds (HasPage number l (Some (take page_size (drop (length l.part) (children_of (o.1 i) m.rows)))))) in
-      subst (λ t. Left m (held_after (Lists number l) t) n) (sym holds)
+      let holds : taken (Loads (Lists number l)) (reply_to m (Children (listed_id l) (length l.part))) ≡ Goes (Loads (HasPage number l (Some page))) =
+      ap (λ v. taken (Loads (Lists number l)) (children_reply m (length l.part) v)) (ap (λ k. row_of k m.rows) listed ∙ o.3)
+      ∙ ap (taken (Loads (Lists number l))) (page-of m (length l.part) o.0 o.2)
+      ∙ (λ i. Goes (Loads (HasPage number l (Some (take page_size (drop (length l.part) (children_of (o.1 i) m.rows))))))) in
+      subst (λ t. Left m (after_outcome (Loads (Lists number l)) t) n) (sym holds)
       (left.0, record { of = lasts.of; pages = lasts.pages; shown = lasts.shown; left_is = omega (arith, lasts.left_is) }, refl)
-  read-left (HasPage number l page) n left =
+  read-left (Loads (HasPage number l page)) n left =
       let lasts : Lasts m.rows l (suc n + 1) = left.1 in
       let next : List ObjectRow = take page_size (drop (length l.part) (children_of lasts.of.first.id m.rows)) in
       let stands : Stands lasts.of.first.id m.rows lasts.of.first = first-stands m.rows tree lasts.of.first.id lasts.of.first lasts.of.others lasts.of.wait in
       let fit : fits l next ≡ true = page-fits m.rows tree lasts.of.first.id (length l.part) l lasts.of.first lasts.of.others lasts.of.shown lasts.of.waiting refl
       stands.counts lasts.of.front refl in
-      let holds : taken (HasPage number l page) (reply_to m AskNumber) ≡ Holds (after_page m.number l next) =
-      ap (λ b. cond b (page_taken number l page) (Holds Begun)) (eq-eqb m.number number (sym left.0))
+      let holds : taken (Loads (HasPage number l page)) (reply_to m AskNumber) ≡ Goes (after_page m.number l next) =
+      ap (λ b. cond b (page_taken number l page) (Goes (Loads Begun))) (eq-eqb m.number number (sym left.0))
       ∙ (λ i. page_taken (left.0 i) l (left.2 i))
-      ∙ ap (λ b. cond b (Holds (after_page m.number l next)) (Torn (listed_id l))) fit in
-      subst (λ t. Left m (held_after (HasPage number l page) t) n) (sym holds) (page-left l n lasts)
+      ∙ ap (λ b. cond b (Goes (after_page m.number l next)) (Tears (listed_id l))) fit in
+      subst (λ t. Left m (after_outcome (Loads (HasPage number l page)) t) n) (sym holds) (page-left l n lasts)
   read-left (HasCopy number rows) n left = absurd (omega (arith, left.0))
 
   -- while there are reads to go the load runs
   runs-left : (held : Held) (n : ℕ) → Left m held (suc n) → IsSome (next_ask held) × (says held ≡ BehindLoad)
   runs-left Idle n left = absurd left
-  runs-left Begun n left = (refl, refl)
-  runs-left HasToken n left = (refl, refl)
-  runs-left (HasNumber number) n left = (refl, refl)
-  runs-left (HasRoot number root) n left = (refl, refl)
-  runs-left (Lists number l) n left = (refl, refl)
-  runs-left (HasPage number l page) n left = (refl, refl)
+  runs-left (Loads stage) n left = (refl, refl)
   runs-left (HasCopy number rows) n left = absurd (omega (arith, left.0))
 
   -- and with none to go there is the copy
   pub none-left : (held : Held) → Left m held 0 → held ≡ HasCopy m.number m.rows
   none-left Idle left = absurd left
-  none-left Begun left = absurd (omega (arith, left))
-  none-left HasToken left = absurd (omega (arith, left))
-  none-left (HasNumber number) left = absurd (omega (arith, left.1))
-  none-left (HasRoot number root) left = absurd (omega (arith, left.2))
-  none-left (Lists number l) left =
+  none-left (Loads Begun) left = absurd (omega (arith, left))
+  none-left (Loads HasToken) left = absurd (omega (arith, left))
+  none-left (Loads (HasNumber number)) left = absurd (omega (arith, left.1))
+  none-left (Loads (HasRoot number root)) left = absurd (omega (arith, left.2))
+  none-left (Loads (Lists number l)) left =
       let lasts : Lasts m.rows l 0 = left.1 in
       let pages = (own l 0 lasts).4 in
       absurd (by lasts.of.room (omega (arith, pages, lasts.left_is)))
@@ -248,21 +244,21 @@ module _ (m : Moment) (tree : IsTree m.rows) where
           max 1 ((length (children_of left.1.of.first.id m.rows) + 255) / 256) ≤ left.1.pages → ⊥
       by (inl none) few = let shown = left.1.shown in omega (arith, none, few, shown)
       by (inr some) few = let shown = left.1.shown in omega (arith, some, few, shown)
-  none-left (HasPage number l page) left =
+  none-left (Loads (HasPage number l page)) left =
       let lasts : Lasts m.rows l 1 = left.1 in absurd (omega (arith, lasts.left_is))
   none-left (HasCopy number rows) left = λ i. HasCopy (left.1 i) (left.2 i)
 
-  reads-left : (n : ℕ) → n ≤ load_reads m.rows → Left m (reads n m Begun) (load_reads m.rows - n)
+  reads-left : (n : ℕ) → n ≤ load_reads m.rows → Left m (reads n m (Loads Begun)) (load_reads m.rows - n)
   reads-left zero few = omega arith
   reads-left (suc n) few =
-      let before : Left m (reads n m Begun) (suc (load_reads m.rows - suc n)) =
-      subst (Left m (reads n m Begun)) (let e : load_reads m.rows - n ≡ suc (load_reads m.rows - suc n) = omega (arith, few) in e) (reads-left n (omega (arith, few))) in
-      read-left (reads n m Begun) (load_reads m.rows - suc n) before
+      let before : Left m (reads n m (Loads Begun)) (suc (load_reads m.rows - suc n)) =
+      subst (Left m (reads n m (Loads Begun))) (let e : load_reads m.rows - n ≡ suc (load_reads m.rows - suc n) = omega (arith, few) in e) (reads-left n (omega (arith, few))) in
+      read-left (reads n m (Loads Begun)) (load_reads m.rows - suc n) before
 
-  pub load-ends : (reads (load_reads m.rows) m Begun ≡ HasCopy m.number m.rows)
-      × ((n : ℕ) → n < load_reads m.rows → IsSome (next_ask (reads n m Begun)) × (says (reads n m Begun) ≡ BehindLoad))
+  pub load-ends : (reads (load_reads m.rows) m (Loads Begun) ≡ HasCopy m.number m.rows)
+      × ((n : ℕ) → n < load_reads m.rows → IsSome (next_ask (reads n m (Loads Begun))) × (says (reads n m (Loads Begun)) ≡ BehindLoad))
   load-ends = (
-    none-left _ (subst (Left m (reads (load_reads m.rows) m Begun)) (let e : load_reads m.rows - load_reads m.rows ≡ 0 = omega arith in e) (reads-left (load_reads m.rows) (omega arith))),
-    λ n few. runs-left (reads n m Begun) (load_reads m.rows - suc n)
-        (subst (Left m (reads n m Begun)) (let e : load_reads m.rows - n ≡ suc (load_reads m.rows - suc n) = omega (arith, few) in e) (reads-left n (omega (arith, few)))),
+    none-left _ (subst (Left m (reads (load_reads m.rows) m (Loads Begun))) (let e : load_reads m.rows - load_reads m.rows ≡ 0 = omega arith in e) (reads-left (load_reads m.rows) (omega arith))),
+    λ n few. runs-left (reads n m (Loads Begun)) (load_reads m.rows - suc n)
+        (subst (Left m (reads n m (Loads Begun))) (let e : load_reads m.rows - n ≡ suc (load_reads m.rows - suc n) = omega (arith, few) in e) (reads-left n (omega (arith, few)))),
   )

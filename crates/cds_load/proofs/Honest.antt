@@ -8,11 +8,12 @@ use Rattle.cds_object.specs.Object.{ObjectRow, IsRow, is_folder}
 use Rattle.cds_object.specs.Tree.{row_of, is_container_row, IsTree}
 use Rattle.cds_load.specs.declared.exchange.Ask.TheVariants.{Children}
 use Rattle.cds_load.specs.Server.{Moment, reply_to}
-use Rattle.cds_load.specs.Stages.{Waiting, Held, Idle, Begun, HasToken, HasNumber, HasRoot, Lists, HasPage, HasCopy, Holds, waiting_of, puts_by, put_containers, listing_of, listed_id, taken}
+use Rattle.cds_load.specs.Stages.{Waiting, Held, Idle, Begun, HasToken, HasNumber, HasRoot, Lists, HasPage, HasCopy, waiting_of, puts_by, put_containers, listing_of, listed_id, taken, Loads}
 use Rattle.cds_load.proofs.Merge.{Rises}
 use Rattle.cds_load.proofs.Trees.{id_of, all-map, all-map_two, ascend-rises, found-id, all-at}
 use Rattle.cds_load.proofs.Frontier.{below, known, waits, waiting_at, filter-same, folder-waits}
 use Rattle.cds_load.proofs.Listings.{IsListing, Follows}
+use Rattle.cds_load.specs.Outcome.{Goes}
 
 -- the root stands first, and is the only one that is known before any listing
 root-alone : (rows : List ObjectRow) (root : ObjectRow) → Rises id_of rows → AllByRecursion IsRow rows → row_of 0 rows ≡ Some root →
@@ -124,14 +125,14 @@ pub record HadTwo (Stood : Moment → Type 0) (number : ℕ) : Type 0 where
 -- what is held, where all replies were those of moments that stood
 abbrev pub IsGiven : (Moment → Type 0) → Held → Type 0
 IsGiven Stood Idle = Unit {0}
-IsGiven Stood Begun = Unit {0}
-IsGiven Stood HasToken = Unit {0}
-IsGiven Stood (HasNumber number) = Had Stood number
-IsGiven Stood (HasRoot number root) = (two : HadTwo Stood number) × (row_of 0 two.moment.rows ≡ Some root)
-IsGiven Stood (Lists number l) = (had : Had Stood number) × IsListing had.moment.rows l
-IsGiven Stood (HasPage number l page) =
+IsGiven Stood (Loads Begun) = Unit {0}
+IsGiven Stood (Loads HasToken) = Unit {0}
+IsGiven Stood (Loads (HasNumber number)) = Had Stood number
+IsGiven Stood (Loads (HasRoot number root)) = (two : HadTwo Stood number) × (row_of 0 two.moment.rows ≡ Some root)
+IsGiven Stood (Loads (Lists number l)) = (had : Had Stood number) × IsListing had.moment.rows l
+IsGiven Stood (Loads (HasPage number l page)) =
     (two : HadTwo Stood number) × IsListing two.had.moment.rows l
-    × (taken (Lists number l) (reply_to two.moment (Children (listed_id l) (length l.part))) ≡ Holds (HasPage number l page))
+    × (taken (Loads (Lists number l)) (reply_to two.moment (Children (listed_id l) (length l.part))) ≡ Goes (Loads (HasPage number l page)))
 IsGiven Stood (HasCopy number rows) = (had : Had Stood number) × (rows ≡ had.moment.rows)
 
 -- what is held stays given when more moments have stood
@@ -146,12 +147,12 @@ given-more Stood More more held given = by held given
 
     by : (h : Held) → IsGiven Stood h → IsGiven More h
     by Idle g = tt
-    by Begun g = tt
-    by HasToken g = tt
-    by (HasNumber number) g = had number g
-    by (HasRoot number root) g = (two number g.0, g.1)
-    by (Lists number l) g = (had number g.0, g.1)
-    by (HasPage number l page) g = (two number g.0, g.1, g.2)
+    by (Loads Begun) g = tt
+    by (Loads HasToken) g = tt
+    by (Loads (HasNumber number)) g = had number g
+    by (Loads (HasRoot number root)) g = (two number g.0, g.1)
+    by (Loads (Lists number l)) g = (had number g.0, g.1)
+    by (Loads (HasPage number l page)) g = (two number g.0, g.1, g.2)
     by (HasCopy number rows) g = (had number g.0, g.1)
 
 -- what follows the catalog of a moment is given
@@ -160,10 +161,10 @@ follows-given Stood number had held follows = by held follows
   where
     by : (h : Held) → Follows had.moment.rows number h → IsGiven Stood h
     by Idle f = absurd f
-    by Begun f = absurd f
-    by HasToken f = absurd f
-    by (HasNumber n) f = absurd f
-    by (HasRoot n root) f = absurd f
-    by (Lists n l) f = (record { moment = had.moment; stood = had.stood; numbered = f.0 ∙ had.numbered }, f.1)
-    by (HasPage n l page) f = absurd f
+    by (Loads Begun) f = absurd f
+    by (Loads HasToken) f = absurd f
+    by (Loads (HasNumber n)) f = absurd f
+    by (Loads (HasRoot n root)) f = absurd f
+    by (Loads (Lists n l)) f = (record { moment = had.moment; stood = had.stood; numbered = f.0 ∙ had.numbered }, f.1)
+    by (Loads (HasPage n l page)) f = absurd f
     by (HasCopy n rows) f = (record { moment = had.moment; stood = had.stood; numbered = f.0 ∙ had.numbered }, f.1)

@@ -7,12 +7,12 @@ pub mod Frontier
 pub mod Honest
 pub mod Listings
 pub mod Merge
+pub mod NoJumps
 pub mod Pages
 pub mod Placed
 pub mod Replies
 pub mod Seen
 pub mod Servers
-pub mod ServersOf
 pub mod Traces
 pub mod Trees
 pub mod Unasked

@@ -7,7 +7,7 @@ use Rattle.std.specs.List.{AllByRecursion, filter, list_all}
 use Rattle.cds_object.specs.Object.{ObjectRow}
 use Rattle.cds_object.specs.Tree.{is_child_of, children_of, IsTree}
 use Rattle.cds_load.specs.Server.{page_size}
-use Rattle.cds_load.specs.Stages.{Waiting, Listing, Held, Idle, Begun, HasToken, HasNumber, HasRoot, Lists, HasPage, HasCopy, put_rows, put_containers, listed_id, listed_children, others_waiting, known_ids, all_new, fits, listed, after_page}
+use Rattle.cds_load.specs.Stages.{Waiting, Listing, Held, Idle, Begun, HasToken, HasNumber, HasRoot, Lists, HasPage, HasCopy, put_rows, put_containers, listed_id, listed_children, others_waiting, known_ids, all_new, fits, listed, after_page, Loads}
 use Rattle.cds_load.proofs.Merge.{Rises}
 use Rattle.cds_load.proofs.Trees.{id_of, all-map, all-map_two, ascend-rises}
 use Rattle.cds_load.proofs.Frontier.{known, waiting_at}
@@ -28,12 +28,12 @@ pub record IsListing (rows : List ObjectRow) (l : Listing) : Type 0 where
 -- what is held follows a catalog: a listing of it, or its copy
 abbrev pub Follows : List ObjectRow → ℕ → Held → Type 0
 Follows rows number Idle = ⊥
-Follows rows number Begun = ⊥
-Follows rows number HasToken = ⊥
-Follows rows number (HasNumber n) = ⊥
-Follows rows number (HasRoot n root) = ⊥
-Follows rows number (Lists n l) = (n ≡ number) × IsListing rows l
-Follows rows number (HasPage n l page) = ⊥
+Follows rows number (Loads Begun) = ⊥
+Follows rows number (Loads HasToken) = ⊥
+Follows rows number (Loads (HasNumber n)) = ⊥
+Follows rows number (Loads (HasRoot n root)) = ⊥
+Follows rows number (Loads (Lists n l)) = (n ≡ number) × IsListing rows l
+Follows rows number (Loads (HasPage n l page)) = ⊥
 Follows rows number (HasCopy n copy) = (n ≡ number) × (copy ≡ rows)
 
 module _ (rows : List ObjectRow) (tree : IsTree rows) where
@@ -132,7 +132,7 @@ module _ (rows : List ObjectRow) (tree : IsTree rows) where
       whole = listed number (put_rows (l.part ++ page) l.rows) (put_containers (l.part ++ page) (others_waiting l))
 
       partly : Held
-      partly = Lists number (record { rows = l.rows; waiting = l.waiting; part = l.part ++ page })
+      partly = Loads (Lists number (record { rows = l.rows; waiting = l.waiting; part = l.part ++ page }))
 
       test : nat_eq (length (l.part ++ page)) (listed_children l) ≡ nat_eq (length more) (length (children_of at rows))
       test = λ i. nat_eq (length (joined i)) (own_count i)

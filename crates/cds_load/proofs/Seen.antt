@@ -5,9 +5,10 @@ use Rattle.std.specs.List.{AllByRecursion}
 use Rattle.cds_object.specs.Object.{ObjectRow, is_folder}
 use Rattle.cds_load.specs.declared.exchange.Shown.{Shown}
 use Rattle.cds_load.specs.declared.exchange.Shown.TheVariants.{Text, Number, Page, Fault}
-use Rattle.cds_load.specs.Stages.{Waiting, Listing, Held, Idle, Begun, HasToken, HasNumber, HasRoot, Lists, HasPage, HasCopy, Taken, Holds, Torn, put_by, puts_by, put_rows, put_containers, others_waiting, listing_of, listed_children, fits, listed, after_page, root_taken, page_taken, taken, held_after, ReplicaTurn, Begins, Shows, held_by, copied}
+use Rattle.cds_load.specs.Stages.{Waiting, Listing, Held, Idle, Begun, HasToken, HasNumber, HasRoot, Lists, HasPage, HasCopy, put_by, puts_by, put_rows, put_containers, others_waiting, listing_of, listed_children, fits, listed, after_page, root_taken, page_taken, taken, ReplicaTurn, Begins, Shows, held_by, copied, Loads}
 use Rattle.cds_load.specs.Seen.{rows_shown, HasVersion, WasShown, copied_rows_were_shown}
 use Rattle.cds_load.proofs.Trees.{id_of, all-map}
+use Rattle.cds_load.specs.Outcome.{Outcome, Goes, Tears, after_outcome}
 
 module _ (P : ObjectRow → Type 0) where
   all-append : (xs ys : List ObjectRow) → AllByRecursion P xs → AllByRecursion P ys → AllByRecursion P (xs ++ ys)
@@ -34,17 +35,17 @@ module _ (P : ObjectRow → Type 0) where
   -- it holds of each row that is held
   abbrev InHeld : Held → Type 0
   InHeld Idle = Unit {0}
-  InHeld Begun = Unit {0}
-  InHeld HasToken = Unit {0}
-  InHeld (HasNumber number) = Unit {0}
-  InHeld (HasRoot number root) = P root
-  InHeld (Lists number l) = AllByRecursion P l.rows × AllByRecursion P l.part
-  InHeld (HasPage number l page) = AllByRecursion P l.rows × AllByRecursion P l.part × InPage page
+  InHeld (Loads Begun) = Unit {0}
+  InHeld (Loads HasToken) = Unit {0}
+  InHeld (Loads (HasNumber number)) = Unit {0}
+  InHeld (Loads (HasRoot number root)) = P root
+  InHeld (Loads (Lists number l)) = AllByRecursion P l.rows × AllByRecursion P l.part
+  InHeld (Loads (HasPage number l page)) = AllByRecursion P l.rows × AllByRecursion P l.part × InPage page
   InHeld (HasCopy number rows) = AllByRecursion P rows
 
   -- and so of what is taken
-  abbrev InTaken : Held → Taken → Type 0
-  InTaken held becomes = InHeld (held_after held becomes)
+  abbrev InTaken : Held → Outcome Held → Type 0
+  InTaken held becomes = InHeld (after_outcome held becomes)
 
   in-listed : (number : ℕ) (rows : List ObjectRow) (ws : List Waiting) → AllByRecursion P rows → InHeld (listed number rows ws)
   in-listed number rows [] all = all
@@ -58,84 +59,79 @@ module _ (P : ObjectRow → Type 0) where
       whole = all-append l.part page part new
 
       by : (b : Bool) → InHeld (cond b (listed number (put_rows (l.part ++ page) l.rows) (put_containers (l.part ++ page) (others_waiting l)))
-          (Lists number (record { rows = l.rows; waiting = l.waiting; part = l.part ++ page })))
+          (Loads (Lists number (record { rows = l.rows; waiting = l.waiting; part = l.part ++ page }))))
       by true = in-listed number (put_rows (l.part ++ page) l.rows) (put_containers (l.part ++ page) (others_waiting l))
           (puts-all (l.part ++ page) l.rows whole rows)
       by false = (rows, whole)
 
-  in-root : (number : ℕ) (rows : List ObjectRow) → AllByRecursion P rows → InTaken (HasNumber number) (root_taken number rows)
+  in-root : (number : ℕ) (rows : List ObjectRow) → AllByRecursion P rows → InTaken (Loads (HasNumber number)) (root_taken number rows)
   in-root number [] all = tt
   in-root number (row ∷ []) all = by (nat_eq row.id 0 && is_folder row.content)
     where
-      by : (b : Bool) → InTaken (HasNumber number) (cond b (Holds (HasRoot number row)) (Torn 0))
+      by : (b : Bool) → InTaken (Loads (HasNumber number)) (cond b (Goes (Loads (HasRoot number row))) (Tears 0))
       by true = all.0
       by false = tt
   in-root number (row ∷ next ∷ rows) all = tt
 
-  in-page : (number : ℕ) (l : Listing) (page : Option (List ObjectRow)) → InHeld (HasPage number l page) →
-      InTaken (HasPage number l page) (page_taken number l page)
+  in-page : (number : ℕ) (l : Listing) (page : Option (List ObjectRow)) → InHeld (Loads (HasPage number l page)) →
+      InTaken (Loads (HasPage number l page)) (page_taken number l page)
   in-page number l None all = all
   in-page number l (Some page) all = by (fits l page)
     where
-      by : (b : Bool) → InTaken (HasPage number l (Some page)) (cond b (Holds (after_page number l page)) (page_taken number l None))
+      by : (b : Bool) → InTaken (Loads (HasPage number l (Some page))) (cond b (Goes (after_page number l page)) (page_taken number l None))
       by true = in-after_page number l page all.0 all.1 all.2
       by false = all
 
   in-taken : (held : Held) (shown : Shown) → InHeld held → AllByRecursion P (rows_shown shown) → InTaken held (taken held shown)
   in-taken Idle shown all new = tt
-  in-taken Begun (Text token) all new = tt
-  in-taken Begun (Number n) all new = tt
-  in-taken Begun (Page rows total update) all new = tt
-  in-taken Begun (Fault code) all new = tt
-  in-taken HasToken (Text token) all new = tt
-  in-taken HasToken (Number n) all new = tt
-  in-taken HasToken (Page rows total update) all new = tt
-  in-taken HasToken (Fault code) all new = tt
-  in-taken (HasNumber number) (Text token) all new = tt
-  in-taken (HasNumber number) (Number n) all new = tt
-  in-taken (HasNumber number) (Page rows total update) all new = in-root number rows new
-  in-taken (HasNumber number) (Fault code) all new = tt
-  in-taken (HasRoot number root) (Text token) all new = all
-  in-taken (HasRoot number root) (Number n) all new = by (nat_eq n number)
+  in-taken (Loads Begun) (Text token) all new = tt
+  in-taken (Loads Begun) (Number n) all new = tt
+  in-taken (Loads Begun) (Page rows total update) all new = tt
+  in-taken (Loads Begun) (Fault code) all new = tt
+  in-taken (Loads HasToken) (Text token) all new = tt
+  in-taken (Loads HasToken) (Number n) all new = tt
+  in-taken (Loads HasToken) (Page rows total update) all new = tt
+  in-taken (Loads HasToken) (Fault code) all new = tt
+  in-taken (Loads (HasNumber number)) (Text token) all new = tt
+  in-taken (Loads (HasNumber number)) (Number n) all new = tt
+  in-taken (Loads (HasNumber number)) (Page rows total update) all new = in-root number rows new
+  in-taken (Loads (HasNumber number)) (Fault code) all new = tt
+  in-taken (Loads (HasRoot number root)) (Text token) all new = all
+  in-taken (Loads (HasRoot number root)) (Number n) all new = by (nat_eq n number)
     where
-      by : (b : Bool) → InHeld (cond b (Lists number (listing_of root)) Begun)
+      by : (b : Bool) → InHeld (cond b (Loads (Lists number (listing_of root))) (Loads Begun))
       by true = ((all, tt), tt)
       by false = tt
-  in-taken (HasRoot number root) (Page rows total update) all new = all
-  in-taken (HasRoot number root) (Fault code) all new = all
-  in-taken (Lists number l) (Text token) all new = all
-  in-taken (Lists number l) (Number n) all new = all
-  in-taken (Lists number l) (Page rows total update) all new = (all.0, all.1, new)
-  in-taken (Lists number l) (Fault code) all new = (all.0, all.1, tt)
-  in-taken (HasPage number l page) (Text token) all new = all
-  in-taken (HasPage number l page) (Number n) all new = by (nat_eq n number)
+  in-taken (Loads (HasRoot number root)) (Page rows total update) all new = all
+  in-taken (Loads (HasRoot number root)) (Fault code) all new = all
+  in-taken (Loads (Lists number l)) (Text token) all new = all
+  in-taken (Loads (Lists number l)) (Number n) all new = all
+  in-taken (Loads (Lists number l)) (Page rows total update) all new = (all.0, all.1, new)
+  in-taken (Loads (Lists number l)) (Fault code) all new = (all.0, all.1, tt)
+  in-taken (Loads (HasPage number l page)) (Text token) all new = all
+  in-taken (Loads (HasPage number l page)) (Number n) all new = by (nat_eq n number)
     where
-      by : (b : Bool) → InTaken (HasPage number l page) (cond b (page_taken number l page) (Holds Begun))
+      by : (b : Bool) → InTaken (Loads (HasPage number l page)) (cond b (page_taken number l page) (Goes (Loads Begun)))
       by true = in-page number l page all
       by false = tt
-  in-taken (HasPage number l page) (Page rows total update) all new = all
-  in-taken (HasPage number l page) (Fault code) all new = all
+  in-taken (Loads (HasPage number l page)) (Page rows total update) all new = all
+  in-taken (Loads (HasPage number l page)) (Fault code) all new = all
   in-taken (HasCopy number rows) shown all new = all
 
   in-copied : (held : Held) → InHeld held → AllByRecursion P (copied held)
   in-copied Idle all = tt
-  in-copied Begun all = tt
-  in-copied HasToken all = tt
-  in-copied (HasNumber number) all = tt
-  in-copied (HasRoot number root) all = tt
-  in-copied (Lists number l) all = tt
-  in-copied (HasPage number l page) all = tt
+  in-copied (Loads stage) all = tt
   in-copied (HasCopy number rows) all = all
 
 -- what holds of each row that is held leads to what holds of each
 held-map : (P Q : ObjectRow → Type 0) → ((row : ObjectRow) → P row → Q row) → (held : Held) → InHeld P held → InHeld Q held
 held-map P Q f Idle all = tt
-held-map P Q f Begun all = tt
-held-map P Q f HasToken all = tt
-held-map P Q f (HasNumber number) all = tt
-held-map P Q f (HasRoot number root) all = f root all
-held-map P Q f (Lists number l) all = (all-map f l.rows all.0, all-map f l.part all.1)
-held-map P Q f (HasPage number l page) all = (all-map f l.rows all.0, all-map f l.part all.1, by page all.2)
+held-map P Q f (Loads Begun) all = tt
+held-map P Q f (Loads HasToken) all = tt
+held-map P Q f (Loads (HasNumber number)) all = tt
+held-map P Q f (Loads (HasRoot number root)) all = f root all
+held-map P Q f (Loads (Lists number l)) all = (all-map f l.rows all.0, all-map f l.part all.1)
+held-map P Q f (Loads (HasPage number l page)) all = (all-map f l.rows all.0, all-map f l.part all.1, by page all.2)
   where
     by : (o : Option (List ObjectRow)) → InPage P o → InPage Q o
     by None in_page = tt

@@ -11,42 +11,43 @@ use Rattle.cds_load.specs.declared.exchange.Ask.TheVariants.{Token, Number as As
 use Rattle.cds_load.specs.declared.exchange.Shown.{Shown}
 use Rattle.cds_load.specs.declared.exchange.Shown.TheVariants.{Text, Number, Page, Fault}
 use Rattle.cds_load.specs.Loads.{load_reads}
-use Rattle.cds_load.specs.Stages.{BehindLoad, Stands, Waiting, Listing, Held, Idle, Begun, HasToken, HasNumber, HasRoot, Lists, HasPage, HasCopy, Taken, Holds, Torn, waiting_of, puts_by, put_rows, put_containers, listing_of, listed_id, listed_children, others_waiting, fits, listed, after_page, root_taken, page_taken, taken, held_after, held_by, next_ask, says, copied, ReplicaTurn, Begins, Shows}
+use Rattle.cds_load.specs.Stages.{BehindLoad, Stands, Waiting, Listing, Held, Idle, Begun, HasToken, HasNumber, HasRoot, Lists, HasPage, HasCopy, waiting_of, puts_by, put_rows, put_containers, listing_of, listed_id, listed_children, others_waiting, fits, listed, after_page, root_taken, page_taken, taken, held_by, next_ask, says, copied, ReplicaTurn, Begins, Shows, Loads}
 use Rattle.cds_load.specs.Seen.{rows_shown}
-use Rattle.cds_load.specs.Attempts.{rows_in, number_in, is_odd, children_among, asked_in, next_container, ask_in, is_complete, can_be, Verdict, Fine, CannotBeRead, CannotBe, verdict_of, page_verdict, differs, reply_verdict, verdict_in, after_verdict, attempt_of, verdict_by, says_by, copied_by, EvenAre, ShowsRows, asks_are_of_attempts, refusals_are_of_attempts, answers_are_of_attempts, copies_are_of_attempts, even_replies_are_the_number}
+use Rattle.cds_load.specs.Attempts.{rows_in, number_in, is_odd, children_among, asked_in, next_container, ask_in, is_complete, can_be, Verdict, verdict_of, page_verdict, differs, reply_verdict, verdict_in, after_verdict, attempt_of, verdict_by, says_by, copied_by, EvenAre, ShowsRows, asks_are_of_attempts, refusals_are_of_attempts, answers_are_of_attempts, copies_are_of_attempts, even_replies_are_the_number, fine}
 use Rattle.cds_load.proofs.Advance.{waiting_id}
 use Rattle.cds_load.proofs.Unasked.{Under, own_pages, row_pages}
 use Rattle.cds_load.proofs.Attempts.{Between, Within, between-next, within-begins, within-ask, within-next, within-id, within-children, fits-same, goes-on, ends}
+use Rattle.cds_load.specs.Outcome.{Outcome, Goes, CannotBeRead, Tears, after_outcome}
 
 -- what is held, as an attempt shows it
 abbrev pub Trace : Held → List Shown → Type 0
 Trace Idle attempt = ⊥
-Trace Begun attempt = attempt ≡ []
-Trace HasToken attempt = (token : List ℕ) × (attempt ≡ Text token ∷ [])
-Trace (HasNumber number) attempt = (token : List ℕ) × (attempt ≡ Number number ∷ Text token ∷ [])
-Trace (HasRoot number root) attempt =
+Trace (Loads Begun) attempt = attempt ≡ []
+Trace (Loads HasToken) attempt = (token : List ℕ) × (attempt ≡ Text token ∷ [])
+Trace (Loads (HasNumber number)) attempt = (token : List ℕ) × (attempt ≡ Number number ∷ Text token ∷ [])
+Trace (Loads (HasRoot number root)) attempt =
     (token : List ℕ) × (total : ℕ) × (update : ℕ) × IsRow root × (root.id ≡ 0) × (is_folder root.content ≡ true)
     × (attempt ≡ Page (root ∷ []) total update ∷ Number number ∷ Text token ∷ [])
-Trace (Lists number l) attempt = Within number attempt l
-Trace (HasPage number l None) attempt = (code : ℕ) × (older : List Shown) × Within number older l × (attempt ≡ Fault code ∷ older)
-Trace (HasPage number l (Some page)) attempt =
+Trace (Loads (Lists number l)) attempt = Within number attempt l
+Trace (Loads (HasPage number l None)) attempt = (code : ℕ) × (older : List Shown) × Within number older l × (attempt ≡ Fault code ∷ older)
+Trace (Loads (HasPage number l (Some page))) attempt =
     (total : ℕ) × (update : ℕ) × (older : List Shown) × Within number older l × (attempt ≡ Page page total update ∷ older)
 Trace (HasCopy number rows) attempt = Between number attempt rows []
 
 -- what becomes of a reply is what becomes of it by the attempt, and what is held then is what this shows
-abbrev Step : Held → Taken → List Shown → Shown → Type 0
+abbrev Step : Held → Outcome Held → List Shown → Shown → Type 0
 Step held becomes attempt shown =
-    (verdict_of becomes ≡ verdict_in attempt shown) × Trace (held_after held becomes) (after_verdict (verdict_of becomes) attempt shown)
+    (verdict_of becomes ≡ verdict_in attempt shown) × Trace (after_outcome held becomes) (after_verdict (verdict_of becomes) attempt shown)
 
 -- a reply to the token's ask
-begun : (shown : Shown) → Step Begun (taken Begun shown) [] shown
+begun : (shown : Shown) → Step (Loads Begun) (taken (Loads Begun) shown) [] shown
 begun (Text token) = (refl, (token, refl))
 begun (Number n) = (refl, refl)
 begun (Page rows total update) = (refl, refl)
 begun (Fault code) = (refl, refl)
 
 -- to that for the number
-with-token : (token : List ℕ) (shown : Shown) → Step HasToken (taken HasToken shown) (Text token ∷ []) shown
+with-token : (token : List ℕ) (shown : Shown) → Step (Loads HasToken) (taken (Loads HasToken) shown) (Text token ∷ []) shown
 with-token token (Text other) = (refl, (token, refl))
 with-token token (Number n) = (refl, (token, refl))
 with-token token (Page rows total update) = (refl, (token, refl))
@@ -54,21 +55,21 @@ with-token token (Fault code) = (refl, (token, refl))
 
 -- to that for the root's row
 with-root_row : (token : List ℕ) (number : ℕ) (rows : List ObjectRow) (total update : ℕ) → AllByRecursion IsRow rows →
-    Step (HasNumber number) (root_taken number rows) (Number number ∷ Text token ∷ []) (Page rows total update)
+    Step (Loads (HasNumber number)) (root_taken number rows) (Number number ∷ Text token ∷ []) (Page rows total update)
 with-root_row token number [] total update all = (refl, (token, refl))
 with-root_row token number (row ∷ []) total update all = by (nat_eq row.id 0 && is_folder row.content) refl
   where
     by : (b : Bool) → (nat_eq row.id 0 && is_folder row.content) ≡ b →
-        Step (HasNumber number) (cond b (Holds (HasRoot number row)) (Torn 0)) (Number number ∷ Text token ∷ []) (Page (row ∷ []) total update)
+        Step (Loads (HasNumber number)) (cond b (Goes (Loads (HasRoot number row))) (Tears 0)) (Number number ∷ Text token ∷ []) (Page (row ∷ []) total update)
     by true e = (
-      sym (ap (λ b. cond b Fine (CannotBe 0)) e),
+      sym (ap (λ b. cond b fine (Tears 0)) e),
       (token, total, update, all.0, eqb-true row.id 0 (and_parts _ _ e).0, (and_parts _ _ e).1, refl),
     )
-    by false e = (sym (ap (λ b. cond b Fine (CannotBe 0)) e), (token, refl))
+    by false e = (sym (ap (λ b. cond b fine (Tears 0)) e), (token, refl))
 with-root_row token number (row ∷ next ∷ rows) total update all = (refl, (token, refl))
 
 with-number : (token : List ℕ) (number : ℕ) (shown : Shown) → AllByRecursion IsRow (rows_shown shown) →
-    Step (HasNumber number) (taken (HasNumber number) shown) (Number number ∷ Text token ∷ []) shown
+    Step (Loads (HasNumber number)) (taken (Loads (HasNumber number)) shown) (Number number ∷ Text token ∷ []) shown
 with-number token number (Text other) all = (refl, (token, refl))
 with-number token number (Number n) all = (refl, (token, refl))
 with-number token number (Page rows total update) all = with-root_row token number rows total update all
@@ -140,31 +141,31 @@ root-within token total update number root is zero_id folder =
 
 -- a reply to the ask for the number after the root's row
 with-root : (token : List ℕ) (total update number : ℕ) (root : ObjectRow) → IsRow root → root.id ≡ 0 → is_folder root.content ≡ true → (shown : Shown) →
-    Step (HasRoot number root) (taken (HasRoot number root) shown) (Page (root ∷ []) total update ∷ Number number ∷ Text token ∷ []) shown
+    Step (Loads (HasRoot number root)) (taken (Loads (HasRoot number root)) shown) (Page (root ∷ []) total update ∷ Number number ∷ Text token ∷ []) shown
 with-root token total update number root is zero_id folder (Text other) = (refl, (token, total, update, is, zero_id, folder, refl))
 with-root token total update number root is zero_id folder (Number n) = by (nat_eq n number) refl
   where
     attempt : List Shown
     attempt = Page (root ∷ []) total update ∷ Number number ∷ Text token ∷ []
 
-    fine : (b : Bool) → Fine ≡ cond b Fine Fine
-    fine true = refl
-    fine false = refl
+    either : (b : Bool) → fine ≡ cond b fine fine
+    either true = refl
+    either false = refl
 
     by : (b : Bool) → nat_eq n number ≡ b →
-        (Fine ≡ cond (not (nat_eq n number)) Fine Fine) × Trace (cond b (Lists number (listing_of root)) Begun) (cond (not (nat_eq n number)) [] (Number n ∷ attempt))
+        (fine ≡ cond (not (nat_eq n number)) fine fine) × Trace (cond b (Loads (Lists number (listing_of root))) (Loads Begun)) (cond (not (nat_eq n number)) [] (Number n ∷ attempt))
     by true e = (
-      fine (not (nat_eq n number)),
-      subst (λ b. Trace (Lists number (listing_of root)) (cond (not b) [] (Number n ∷ attempt))) (sym e)
+      either (not (nat_eq n number)),
+      subst (λ b. Trace (Loads (Lists number (listing_of root))) (cond (not b) [] (Number n ∷ attempt))) (sym e)
           (subst (λ k. Within number (Number k ∷ attempt) (listing_of root)) (sym (eqb-true n number e))
           (root-within token total update number root is zero_id folder)),
     )
-    by false e = (fine (not (nat_eq n number)), ap (λ b. cond (not b) [] (Number n ∷ attempt)) e)
+    by false e = (either (not (nat_eq n number)), ap (λ b. cond (not b) [] (Number n ∷ attempt)) e)
 with-root token total update number root is zero_id folder (Page rows t u) = (refl, (token, total, update, is, zero_id, folder, refl))
 with-root token total update number root is zero_id folder (Fault code) = (refl, (token, total, update, is, zero_id, folder, refl))
 
 -- a reply to an ask for a page
-lists : (number : ℕ) (l : Listing) (attempt : List Shown) → Within number attempt l → (shown : Shown) → Step (Lists number l) (taken (Lists number l) shown) attempt shown
+lists : (number : ℕ) (l : Listing) (attempt : List Shown) → Within number attempt l → (shown : Shown) → Step (Loads (Lists number l)) (taken (Loads (Lists number l)) shown) attempt shown
 lists number l attempt within (Text token) = (sym (ap (λ o. reply_verdict o attempt (Text token)) (within-ask number attempt l within)), within)
 lists number l attempt within (Number n) = (sym (ap (λ o. reply_verdict o attempt (Number n)) (within-ask number attempt l within)), within)
 lists number l attempt within (Page rows total update) =
@@ -183,7 +184,7 @@ page-trace number l older within page total update fit = by (nat_eq (length (l.p
   where
     by : (b : Bool) → nat_eq (length (l.part ++ page)) (listed_children l) ≡ b →
         Trace (cond b (listed number (put_rows (l.part ++ page) l.rows) (put_containers (l.part ++ page) (others_waiting l)))
-        (Lists number (record { rows = l.rows; waiting = l.waiting; part = l.part ++ page })))
+        (Loads (Lists number (record { rows = l.rows; waiting = l.waiting; part = l.part ++ page }))))
         (Number number ∷ Page page total update ∷ older)
     by true e =
         listed-trace number (Number number ∷ Page page total update ∷ older) (put_rows (l.part ++ page) l.rows) (put_containers (l.part ++ page) (others_waiting l))
@@ -208,13 +209,13 @@ module _ (number : ℕ) (l : Listing) (older : List Shown) (within : Within numb
 
   -- how a number is judged
   judged : (last : Shown) (n : ℕ) → number_in (last ∷ older) ≡ Some number →
-      verdict_in (last ∷ older) (Number n) ≡ cond (not (nat_eq n number)) Fine (page_verdict (Some within.first) (rows_in older) last)
+      verdict_in (last ∷ older) (Number n) ≡ cond (not (nat_eq n number)) fine (page_verdict (Some within.first) (rows_in older) last)
   judged last n numbered =
       ap (λ o. reply_verdict o (last ∷ older) (Number n)) (odd-ask (last ∷ older) (ap not within.even))
-      ∙ (λ i. cond (differs (numbered i) n) Fine (page_verdict (within-next number older l within i) (rows_in older) last))
+      ∙ (λ i. cond (differs (numbered i) n) fine (page_verdict (within-next number older l within i) (rows_in older) last))
 
   page : (rows : List ObjectRow) (total update : ℕ) (shown : Shown) →
-      Step (HasPage number l (Some rows)) (taken (HasPage number l (Some rows)) shown) (Page rows total update ∷ older) shown
+      Step (Loads (HasPage number l (Some rows))) (taken (Loads (HasPage number l (Some rows))) shown) (Page rows total update ∷ older) shown
   page rows total update (Text token) = (
     sym (ap (λ o. reply_verdict o (Page rows total update ∷ older) (Text token)) (odd-ask (Page rows total update ∷ older) (ap not within.even))),
     (total, update, older, within, refl),
@@ -225,13 +226,13 @@ module _ (number : ℕ) (l : Listing) (older : List Shown) (within : Within numb
       attempt = Page rows total update ∷ older
 
       fit_verdict : Bool → Verdict
-      fit_verdict b = cond b Fine (CannotBe within.first.id)
+      fit_verdict b = cond b fine (Tears within.first.id)
 
       by_fit : nat_eq n number ≡ true → (f : Bool) → fits l rows ≡ f →
-          Step (HasPage number l (Some rows)) (cond f (Holds (after_page number l rows)) (Torn (listed_id l))) (Page rows total update ∷ older) (Number n)
+          Step (Loads (HasPage number l (Some rows))) (cond f (Goes (after_page number l rows)) (Tears (listed_id l))) (Page rows total update ∷ older) (Number n)
       by_fit e true f = (
         sym (judged (Page rows total update) n within.numbered
-            ∙ ap (λ b. cond (not b) Fine (fit_verdict (can_be (rows_in older) within.first rows))) e
+            ∙ ap (λ b. cond (not b) fine (fit_verdict (can_be (rows_in older) within.first rows))) e
             ∙ ap fit_verdict (sym (fits-same number older l within rows) ∙ f)),
         subst (Trace (after_page number l rows))
             (sym ((λ i. cond (differs (within.numbered i) n) [] (Number n ∷ Page rows total update ∷ older))
@@ -239,19 +240,19 @@ module _ (number : ℕ) (l : Listing) (older : List Shown) (within : Within numb
             (page-trace number l older within rows total update f),
       )
       by_fit e false f = (
-        ap CannotBe (within-id number older l within)
+        ap Tears (within-id number older l within)
             ∙ sym (judged (Page rows total update) n within.numbered
-            ∙ ap (λ b. cond (not b) Fine (fit_verdict (can_be (rows_in older) within.first rows))) e
+            ∙ ap (λ b. cond (not b) fine (fit_verdict (can_be (rows_in older) within.first rows))) e
             ∙ ap fit_verdict (sym (fits-same number older l within rows) ∙ f)),
         (total, update, older, within, refl),
       )
 
       by : (b : Bool) → nat_eq n number ≡ b →
-          Step (HasPage number l (Some rows)) (cond b (page_taken number l (Some rows)) (Holds Begun)) (Page rows total update ∷ older) (Number n)
+          Step (Loads (HasPage number l (Some rows))) (cond b (page_taken number l (Some rows)) (Goes (Loads Begun))) (Page rows total update ∷ older) (Number n)
       by true e = by_fit e (fits l rows) refl
       by false e = (
         sym (judged (Page rows total update) n within.numbered
-            ∙ ap (λ b. cond (not b) Fine (fit_verdict (can_be (rows_in older) within.first rows))) e),
+            ∙ ap (λ b. cond (not b) fine (fit_verdict (can_be (rows_in older) within.first rows))) e),
         other-number (Page rows total update) n within.numbered e (Number n ∷ Page rows total update ∷ older),
       )
   page rows total update (Page others t u) = (
@@ -263,7 +264,7 @@ module _ (number : ℕ) (l : Listing) (older : List Shown) (within : Within numb
     (total, update, older, within, refl),
   )
 
-  no-page : (code : ℕ) (shown : Shown) → Step (HasPage number l None) (taken (HasPage number l None) shown) (Fault code ∷ older) shown
+  no-page : (code : ℕ) (shown : Shown) → Step (Loads (HasPage number l None)) (taken (Loads (HasPage number l None)) shown) (Fault code ∷ older) shown
   no-page code (Text token) = (
     sym (ap (λ o. reply_verdict o (Fault code ∷ older) (Text token)) (odd-ask (Fault code ∷ older) (ap not within.even))),
     (code, older, within, refl),
@@ -271,14 +272,14 @@ module _ (number : ℕ) (l : Listing) (older : List Shown) (within : Within numb
   no-page code (Number n) = by (nat_eq n number) refl
     where
       by : (b : Bool) → nat_eq n number ≡ b →
-          Step (HasPage number l None) (cond b (Torn (listed_id l)) (Holds Begun)) (Fault code ∷ older) (Number n)
+          Step (Loads (HasPage number l None)) (cond b (Tears (listed_id l)) (Goes (Loads Begun))) (Fault code ∷ older) (Number n)
       by true e = (
-        ap CannotBe (within-id number older l within)
-            ∙ sym (judged (Fault code) n within.numbered ∙ ap (λ b. cond (not b) Fine (CannotBe within.first.id)) e),
+        ap Tears (within-id number older l within)
+            ∙ sym (judged (Fault code) n within.numbered ∙ ap (λ b. cond (not b) fine (Tears within.first.id)) e),
         (code, older, within, refl),
       )
       by false e = (
-        sym (judged (Fault code) n within.numbered ∙ ap (λ b. cond (not b) Fine (CannotBe within.first.id)) e),
+        sym (judged (Fault code) n within.numbered ∙ ap (λ b. cond (not b) fine (Tears within.first.id)) e),
         other-number (Fault code) n within.numbered e (Number n ∷ Fault code ∷ older),
       )
   no-page code (Page rows total update) = (
@@ -305,18 +306,18 @@ copy-ask number attempt rows b =
 -- any reply
 step : (held : Held) (attempt : List Shown) (shown : Shown) → AllByRecursion IsRow (rows_shown shown) → Trace held attempt → Step held (taken held shown) attempt shown
 step Idle attempt shown all trace = absurd trace
-step Begun attempt shown all trace = subst (λ a. Step Begun (taken Begun shown) a shown) (sym trace) (begun shown)
-step HasToken attempt shown all trace = subst (λ a. Step HasToken (taken HasToken shown) a shown) (sym trace.1) (with-token trace.0 shown)
-step (HasNumber number) attempt shown all trace =
-    subst (λ a. Step (HasNumber number) (taken (HasNumber number) shown) a shown) (sym trace.1) (with-number trace.0 number shown all)
-step (HasRoot number root) attempt shown all trace =
-    subst (λ a. Step (HasRoot number root) (taken (HasRoot number root) shown) a shown) (sym trace.6)
+step (Loads Begun) attempt shown all trace = subst (λ a. Step (Loads Begun) (taken (Loads Begun) shown) a shown) (sym trace) (begun shown)
+step (Loads HasToken) attempt shown all trace = subst (λ a. Step (Loads HasToken) (taken (Loads HasToken) shown) a shown) (sym trace.1) (with-token trace.0 shown)
+step (Loads (HasNumber number)) attempt shown all trace =
+    subst (λ a. Step (Loads (HasNumber number)) (taken (Loads (HasNumber number)) shown) a shown) (sym trace.1) (with-number trace.0 number shown all)
+step (Loads (HasRoot number root)) attempt shown all trace =
+    subst (λ a. Step (Loads (HasRoot number root)) (taken (Loads (HasRoot number root)) shown) a shown) (sym trace.6)
     (with-root trace.0 trace.1 trace.2 number root trace.3 trace.4 trace.5 shown)
-step (Lists number l) attempt shown all trace = lists number l attempt trace shown
-step (HasPage number l None) attempt shown all trace =
-    subst (λ a. Step (HasPage number l None) (taken (HasPage number l None) shown) a shown) (sym trace.3) (no-page number l trace.1 trace.2 trace.0 shown)
-step (HasPage number l (Some rows)) attempt shown all trace =
-    subst (λ a. Step (HasPage number l (Some rows)) (taken (HasPage number l (Some rows)) shown) a shown) (sym trace.4)
+step (Loads (Lists number l)) attempt shown all trace = lists number l attempt trace shown
+step (Loads (HasPage number l None)) attempt shown all trace =
+    subst (λ a. Step (Loads (HasPage number l None)) (taken (Loads (HasPage number l None)) shown) a shown) (sym trace.3) (no-page number l trace.1 trace.2 trace.0 shown)
+step (Loads (HasPage number l (Some rows))) attempt shown all trace =
+    subst (λ a. Step (Loads (HasPage number l (Some rows))) (taken (Loads (HasPage number l (Some rows))) shown) a shown) (sym trace.4)
     (page number l trace.2 trace.3 rows trace.0 trace.1 shown)
 step (HasCopy number rows) attempt shown all trace =
     (sym (ap (λ o. reply_verdict o attempt shown) (copy-ask number attempt rows trace)), trace)
@@ -328,12 +329,12 @@ Follows held (Some attempt) = Trace held attempt
 
 follows-on : (held : Held) (o : Option (List Shown)) (shown : Shown) → AllByRecursion IsRow (rows_shown shown) → Follows held o →
     (verdict_of (taken held shown) ≡ verdict_by o shown)
-    × Follows (held_after held (taken held shown)) (option_map (λ attempt. after_verdict (verdict_in attempt shown) attempt shown) o)
+    × Follows (after_outcome held (taken held shown)) (option_map (λ attempt. after_verdict (verdict_in attempt shown) attempt shown) o)
 follows-on held None shown all idle =
-    subst (λ (h : Held). (verdict_of (taken h shown) ≡ CannotBeRead) × (held_after h (taken h shown) ≡ Idle)) (sym idle) (refl, refl)
+    subst (λ (h : Held). (verdict_of (taken h shown) ≡ CannotBeRead) × (after_outcome h (taken h shown) ≡ Idle)) (sym idle) (refl, refl)
 follows-on held (Some attempt) shown all trace =
     let s = step held attempt shown all trace in
-    (s.0, subst (λ v. Trace (held_after held (taken held shown)) (after_verdict v attempt shown)) s.0 s.1)
+    (s.0, subst (λ v. Trace (after_outcome held (taken held shown)) (after_verdict v attempt shown)) s.0 s.1)
 
 -- after any turns
 follows : (turns : List ReplicaTurn) → ShowsRows turns → Follows (held_by turns) (attempt_of turns)
@@ -348,13 +349,13 @@ asks held (Some attempt) trace = by held trace
   where
     by : (h : Held) → Trace h attempt → next_ask h ≡ ask_in attempt
     by Idle t = absurd t
-    by Begun t = sym (ap ask_in t)
-    by HasToken t = sym (ap ask_in t.1)
-    by (HasNumber number) t = sym (ap ask_in t.1)
-    by (HasRoot number root) t = sym (ap ask_in t.6)
-    by (Lists number l) t = sym (within-ask number attempt l t)
-    by (HasPage number l None) t = sym (odd-ask attempt (ap is_odd t.3 ∙ ap not t.2.even))
-    by (HasPage number l (Some rows)) t = sym (odd-ask attempt (ap is_odd t.4 ∙ ap not t.3.even))
+    by (Loads Begun) t = sym (ap ask_in t)
+    by (Loads HasToken) t = sym (ap ask_in t.1)
+    by (Loads (HasNumber number)) t = sym (ap ask_in t.1)
+    by (Loads (HasRoot number root)) t = sym (ap ask_in t.6)
+    by (Loads (Lists number l)) t = sym (within-ask number attempt l t)
+    by (Loads (HasPage number l None)) t = sym (odd-ask attempt (ap is_odd t.3 ∙ ap not t.2.even))
+    by (Loads (HasPage number l (Some rows))) t = sym (odd-ask attempt (ap is_odd t.4 ∙ ap not t.3.even))
     by (HasCopy number rows) t = sym (copy-ask number attempt rows t)
 
 pub asks-of_attempts : asks_are_of_attempts
@@ -366,12 +367,7 @@ refusals-of_attempts turns shown all = (follows-on (held_by turns) (attempt_of t
 -- whether a copy stands
 abbrev is_copy : Held → Bool
 is_copy Idle = false
-is_copy Begun = false
-is_copy HasToken = false
-is_copy (HasNumber number) = false
-is_copy (HasRoot number root) = false
-is_copy (Lists number l) = false
-is_copy (HasPage number l page) = false
+is_copy (Loads stage) = false
 is_copy (HasCopy number rows) = true
 
 -- a listing is under way while pages are to come
@@ -394,17 +390,17 @@ within-incomplete number l attempt within =
 -- exactly a copy's attempt is complete
 completes : (held : Held) (attempt : List Shown) → Trace held attempt → is_complete attempt ≡ is_copy held
 completes Idle attempt t = absurd t
-completes Begun attempt t = ap is_complete t
-completes HasToken attempt t = ap is_complete t.1
-completes (HasNumber number) attempt t = ap is_complete t.1
-completes (HasRoot number root) attempt t =
+completes (Loads Begun) attempt t = ap is_complete t
+completes (Loads HasToken) attempt t = ap is_complete t.1
+completes (Loads (HasNumber number)) attempt t = ap is_complete t.1
+completes (Loads (HasRoot number root)) attempt t =
     ap is_complete t.6 ∙ ne_eqb 3 (load_reads (root ∷ [])) (λ e. absurd (omega (arith, e)))
-completes (Lists number l) attempt t =
+completes (Loads (Lists number l)) attempt t =
     let low = within-incomplete number l attempt t in ne_eqb (length attempt) (load_reads (rows_in attempt)) (λ e. absurd (omega (arith, low, e)))
-completes (HasPage number l None) attempt t =
+completes (Loads (HasPage number l None)) attempt t =
     let size : length attempt ≡ suc (length t.1) = ap length t.3 in
     ne_eqb (length attempt) (load_reads (rows_in attempt)) (λ e. absurd (omega (arith, size, t.2.long, t.2.at.long, e)))
-completes (HasPage number l (Some rows)) attempt t =
+completes (Loads (HasPage number l (Some rows))) attempt t =
     let size : length attempt ≡ suc (length t.2) = ap length t.4 in
     ne_eqb (length attempt) (load_reads (rows_in attempt)) (λ e. absurd (omega (arith, size, t.3.long, t.3.at.long, e)))
 completes (HasCopy number rows) attempt t =
@@ -419,12 +415,7 @@ answers held (Some attempt) trace =
   where
     by : (h : Held) → Trace h attempt → says h ≡ cond (is_copy h) (Stands (unwrap_or (number_in attempt) 0)) BehindLoad
     by Idle t = absurd t
-    by Begun t = refl
-    by HasToken t = refl
-    by (HasNumber number) t = refl
-    by (HasRoot number root) t = refl
-    by (Lists number l) t = refl
-    by (HasPage number l page) t = refl
+    by (Loads stage) t = refl
     by (HasCopy number rows) t = sym (ap (λ o. Stands (unwrap_or o 0)) t.numbered)
 
 pub answers-of_attempts : answers_are_of_attempts
@@ -438,12 +429,7 @@ copies held (Some attempt) trace =
   where
     by : (h : Held) → Trace h attempt → copied h ≡ cond (is_copy h) (put_rows (rows_in attempt) []) []
     by Idle t = absurd t
-    by Begun t = refl
-    by HasToken t = refl
-    by (HasNumber number) t = refl
-    by (HasRoot number root) t = refl
-    by (Lists number l) t = refl
-    by (HasPage number l page) t = refl
+    by (Loads stage) t = refl
     by (HasCopy number rows) t = t.placed
 
 pub copies-of_attempts : copies_are_of_attempts
@@ -457,19 +443,19 @@ even-same number other attempt is also evens =
 
 evens : (held : Held) (attempt : List Shown) (n : ℕ) → Trace held attempt → number_in attempt ≡ Some n → EvenAre n attempt
 evens Idle attempt n t e = absurd t
-evens Begun attempt n t e = subst (EvenAre n) (sym t) tt
-evens HasToken attempt n t e = subst (EvenAre n) (sym t.1) (λ odd. absurd (true≢false (sym odd)), tt)
-evens (HasNumber number) attempt n t e =
+evens (Loads Begun) attempt n t e = subst (EvenAre n) (sym t) tt
+evens (Loads HasToken) attempt n t e = subst (EvenAre n) (sym t.1) (λ odd. absurd (true≢false (sym odd)), tt)
+evens (Loads (HasNumber number)) attempt n t e =
     even-same number n attempt (ap number_in t.1) e
     (subst (EvenAre number) (sym t.1) (λ odd. refl, (λ odd. absurd (true≢false (sym odd)), tt)))
-evens (HasRoot number root) attempt n t e =
+evens (Loads (HasRoot number root)) attempt n t e =
     even-same number n attempt (ap number_in t.6) e
     (subst (EvenAre number) (sym t.6) (λ odd. absurd (true≢false (sym odd)), (λ odd. refl, (λ odd. absurd (true≢false (sym odd)), tt))))
-evens (Lists number l) attempt n t e = even-same number n attempt t.numbered e t.evens
-evens (HasPage number l None) attempt n t e =
+evens (Loads (Lists number l)) attempt n t e = even-same number n attempt t.numbered e t.evens
+evens (Loads (HasPage number l None)) attempt n t e =
     even-same number n attempt (ap number_in t.3 ∙ t.2.numbered) e
     (subst (EvenAre number) (sym t.3) (λ odd. absurd (true≢false (sym odd ∙ t.2.even)), t.2.evens))
-evens (HasPage number l (Some rows)) attempt n t e =
+evens (Loads (HasPage number l (Some rows))) attempt n t e =
     even-same number n attempt (ap number_in t.4 ∙ t.3.numbered) e
     (subst (EvenAre number) (sym t.4) (λ odd. absurd (true≢false (sym odd ∙ t.3.even)), t.3.evens))
 evens (HasCopy number rows) attempt n t e = even-same number n attempt t.numbered e t.evens

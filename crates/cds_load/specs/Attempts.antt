@@ -14,7 +14,8 @@ use Rattle.cds_load.specs.declared.exchange.Ask.TheVariants.{Token, Number as As
 use Rattle.cds_load.specs.declared.exchange.Shown.{Shown}
 use Rattle.cds_load.specs.declared.exchange.Shown.TheVariants.{Text, Number, Page, Fault}
 use Rattle.cds_load.specs.Server.{page_size}
-use Rattle.cds_load.specs.Stages.{Waiting, waiting_of, put_rows, all_new, Taken, Holds, Unreadable, Torn, ReplicaTurn, Begins, Shows, held_by, taken, next_ask, Said, BehindLoad, Stands, says, copied}
+use Rattle.cds_load.specs.Outcome.{Outcome, Goes, CannotBeRead, Tears, outcome_map, after_outcome}
+use Rattle.cds_load.specs.Stages.{Waiting, waiting_of, put_rows, all_new, Held, ReplicaTurn, Begins, Shows, held_by, taken, next_ask, Said, BehindLoad, Stands, says, copied}
 use Rattle.cds_load.specs.Loads.{load_reads}
 use Rattle.cds_load.specs.Seen.{rows_shown}
 
@@ -87,21 +88,20 @@ ask_in attempt =
 abbrev pub is_complete : List Shown → Bool
 is_complete attempt = nat_eq (length attempt) (load_reads (rows_in attempt))
 
--- what becomes of a reply: it is taken; or it cannot be read as a reply to the ask; or what it shows of this object cannot be
-pub data Verdict : Type 0 where
-  Fine : Verdict
-  CannotBeRead : Verdict
-  CannotBe : ℕ → Verdict
+-- what becomes of a reply by the attempt, with no word of what is held then: it is taken, or refused in one of these ways
+abbrev pub Verdict : Type 0
+Verdict = Outcome (Unit {0})
 
-abbrev pub verdict_of : Taken → Verdict
-verdict_of (Holds held) = Fine
-verdict_of Unreadable = CannotBeRead
-verdict_of (Torn id) = CannotBe id
+abbrev pub fine : Verdict
+fine = Goes tt
+
+abbrev pub verdict_of : Outcome Held → Verdict
+verdict_of = outcome_map (λ held. tt)
 
 -- the root's metadata is one row, the root's, and that of a container
 abbrev pub root_verdict : List ObjectRow → Verdict
 root_verdict [] = CannotBeRead
-root_verdict (row ∷ []) = cond (nat_eq row.id 0 && is_folder row.content) Fine (CannotBe 0)
+root_verdict (row ∷ []) = cond (nat_eq row.id 0 && is_folder row.content) fine (Tears 0)
 root_verdict (row ∷ next ∷ rows) = CannotBeRead
 
 -- whether the rows of a page can be, after these rows. All are children of the container, and none has an id that was shown
@@ -113,14 +113,14 @@ can_be rows w page =
 
 -- a page is judged as soon as the number after it shows that nothing changed; a refusal that came instead of a page cannot be
 abbrev pub page_verdict : Option Waiting → List ObjectRow → Shown → Verdict
-page_verdict None rows shown = Fine
-page_verdict (Some w) rows (Text token) = Fine
-page_verdict (Some w) rows (Number n) = Fine
-page_verdict (Some w) rows (Page page total update) = cond (can_be rows w page) Fine (CannotBe w.id)
-page_verdict (Some w) rows (Fault code) = CannotBe w.id
+page_verdict None rows shown = fine
+page_verdict (Some w) rows (Text token) = fine
+page_verdict (Some w) rows (Number n) = fine
+page_verdict (Some w) rows (Page page total update) = cond (can_be rows w page) fine (Tears w.id)
+page_verdict (Some w) rows (Fault code) = Tears w.id
 
 abbrev pub last_page_verdict : List Shown → Verdict
-last_page_verdict [] = Fine
+last_page_verdict [] = fine
 last_page_verdict (shown ∷ older) = page_verdict (next_container older) (rows_in older) shown
 
 -- whether a number is other than N
@@ -130,27 +130,16 @@ differs (Some number) n = not (nat_eq n number)
 
 -- a number other than N is always taken
 abbrev pub number_verdict : List Shown → ℕ → Verdict
-number_verdict attempt n = cond (differs (number_in attempt) n) Fine (last_page_verdict attempt)
+number_verdict attempt n = cond (differs (number_in attempt) n) fine (last_page_verdict attempt)
 
 -- what becomes of a reply to an ask of an attempt: a reply of another kind than the ask's cannot be read
 abbrev pub reply_verdict : Option Ask → List Shown → Shown → Verdict
-reply_verdict None attempt shown = CannotBeRead
-reply_verdict (Some Token) attempt (Text token) = Fine
-reply_verdict (Some Token) attempt (Number n) = CannotBeRead
-reply_verdict (Some Token) attempt (Page rows total update) = CannotBeRead
-reply_verdict (Some Token) attempt (Fault code) = CannotBeRead
-reply_verdict (Some AskNumber) attempt (Text token) = CannotBeRead
+reply_verdict (Some Token) attempt (Text token) = fine
 reply_verdict (Some AskNumber) attempt (Number n) = number_verdict attempt n
-reply_verdict (Some AskNumber) attempt (Page rows total update) = CannotBeRead
-reply_verdict (Some AskNumber) attempt (Fault code) = CannotBeRead
-reply_verdict (Some (Metadata id)) attempt (Text token) = CannotBeRead
-reply_verdict (Some (Metadata id)) attempt (Number n) = CannotBeRead
 reply_verdict (Some (Metadata id)) attempt (Page rows total update) = root_verdict rows
-reply_verdict (Some (Metadata id)) attempt (Fault code) = CannotBeRead
-reply_verdict (Some (Children id start)) attempt (Text token) = CannotBeRead
-reply_verdict (Some (Children id start)) attempt (Number n) = CannotBeRead
-reply_verdict (Some (Children id start)) attempt (Page rows total update) = Fine
-reply_verdict (Some (Children id start)) attempt (Fault code) = Fine
+reply_verdict (Some (Children id start)) attempt (Page rows total update) = fine
+reply_verdict (Some (Children id start)) attempt (Fault code) = fine
+reply_verdict ask attempt shown = CannotBeRead
 
 abbrev pub verdict_in : List Shown → Shown → Verdict
 verdict_in attempt shown = reply_verdict (ask_in attempt) attempt shown
@@ -164,9 +153,7 @@ joined attempt (Fault code) = Fault code ∷ attempt
 
 -- a refused reply leaves the attempt as it was
 abbrev pub after_verdict : Verdict → List Shown → Shown → List Shown
-after_verdict Fine attempt shown = joined attempt shown
-after_verdict CannotBeRead attempt shown = attempt
-after_verdict (CannotBe id) attempt shown = attempt
+after_verdict verdict attempt shown = after_outcome attempt (outcome_map (λ done. joined attempt shown) verdict)
 
 -- the attempt that runs or has ended after turns; none if no load was ever begun
 abbrev pub attempt_of : List ReplicaTurn → Option (List Shown)

@@ -1,6 +1,6 @@
 pub mod Attempts
 pub mod Loads
+pub mod Outcome
 pub mod Seen
 pub mod Server
-pub mod Servers
 pub mod Stages

@@ -3,6 +3,8 @@ use Rattle.std.specs.Prelude.{ℕ, cond, List, [], ◌∷◌, length, take, drop
 use Rattle.cds_object.specs.Object.{ObjectRow, is_folder}
 use Rattle.cds_object.specs.Tree.{row_of, children_of}
 use Rattle.cds_object.specs.Updates as updates
+use Rattle.cds_catalog.specs.History.{History, end_of}
+use Rattle.cds_catalog.specs.Catalog.{catalog}
 use Rattle.cds_load.specs.declared.exchange.Ask.{Ask}
 use Rattle.cds_load.specs.declared.exchange.Ask.TheVariants.{Token, Number as AskNumber, Metadata, Children}
 use Rattle.cds_load.specs.declared.exchange.Shown.{Shown}
@@ -13,6 +15,10 @@ pub record Moment : Type 0 where
   pub token : List ℕ
   pub number : ℕ
   pub rows : List ObjectRow
+
+-- what a server of a token has after scans: their end is its number, and their catalog its rows
+abbrev pub moment_at : List ℕ → History → Moment
+moment_at token history = record { token = token; number = end_of history; rows = catalog history }
 
 -- how many children are asked for at once; so a page of a server that replies as this one has no more rows
 abbrev pub page_size : ℕ

@@ -11,6 +11,7 @@ use Rattle.cds_object.specs.Object.{ObjectRow, is_folder}
 use Rattle.cds_object.specs.Tree.{is_child_of}
 use Rattle.cds_object.specs.declared.row.Trackers.{Trackers}
 use Rattle.cds_load.specs.Server.{page_size}
+use Rattle.cds_load.specs.Outcome.{Outcome, Goes, CannotBeRead, Tears, after_outcome}
 use Rattle.cds_load.specs.declared.exchange.Ask.{Ask}
 use Rattle.cds_load.specs.declared.exchange.Ask.TheVariants.{Token, Number as AskNumber, Metadata, Children}
 use Rattle.cds_load.specs.declared.exchange.Shown.{Shown}
@@ -28,16 +29,20 @@ pub record Listing : Type 0 where
   pub waiting : List Waiting
   pub part : List ObjectRow
 
--- what a replica holds: nothing; or a load that was begun, or has the token, or the number N, or the root's row; or lists; or has
--- a page, or a refusal instead of one; or has a copy of a number
+-- a load that runs: it was begun, or has the token, or the number N, or the root's row; or it lists; or it has a page, or a refusal
+-- instead of one
+pub data Stage : Type 0 where
+  Begun : Stage
+  HasToken : Stage
+  HasNumber : ℕ → Stage
+  HasRoot : ℕ → ObjectRow → Stage
+  Lists : ℕ → Listing → Stage
+  HasPage : ℕ → Listing → Option (List ObjectRow) → Stage
+
+-- what a replica holds: nothing, as no load was begun; or a load that runs; or a copy of a number
 pub data Held : Type 0 where
   Idle : Held
-  Begun : Held
-  HasToken : Held
-  HasNumber : ℕ → Held
-  HasRoot : ℕ → ObjectRow → Held
-  Lists : ℕ → Listing → Held
-  HasPage : ℕ → Listing → Option (List ObjectRow) → Held
+  Loads : Stage → Held
   HasCopy : ℕ → List ObjectRow → Held
 
 -- the id and the child count of the container that is being listed
@@ -107,71 +112,55 @@ others_waiting listing = rest listing.waiting
 -- what is held after a whole listing: the copy, if no container waits any more
 abbrev pub listed : ℕ → List ObjectRow → List Waiting → Held
 listed number rows [] = HasCopy number rows
-listed number rows (w ∷ ws) = Lists number (record { rows = rows; waiting = w ∷ ws; part = [] })
+listed number rows (w ∷ ws) = Loads (Lists number (record { rows = rows; waiting = w ∷ ws; part = [] }))
 
 -- what is held after a page that fits
 abbrev pub after_page : ℕ → Listing → List ObjectRow → Held
 after_page number listing page =
     cond (nat_eq (length (listing.part ++ page)) (listed_children listing))
     (listed number (put_rows (listing.part ++ page) listing.rows) (put_containers (listing.part ++ page) (others_waiting listing)))
-    (Lists number (record { rows = listing.rows; waiting = listing.waiting; part = listing.part ++ page }))
-
--- what becomes of a reply: it is taken, and this is held then; or it cannot be read as a reply to the ask; or what it
--- shows of this object cannot be
-pub data Taken : Type 0 where
-  Holds : Held → Taken
-  Unreadable : Taken
-  Torn : ℕ → Taken
+    (Loads (Lists number (record { rows = listing.rows; waiting = listing.waiting; part = listing.part ++ page })))
 
 -- the root's metadata is one row, the root's, and that of a container
-abbrev pub root_taken : ℕ → List ObjectRow → Taken
-root_taken number [] = Unreadable
-root_taken number (row ∷ []) = cond (nat_eq row.id 0 && is_folder row.content) (Holds (HasRoot number row)) (Torn 0)
-root_taken number (row ∷ next ∷ rows) = Unreadable
+abbrev pub root_taken : ℕ → List ObjectRow → Outcome Held
+root_taken number [] = CannotBeRead
+root_taken number (row ∷ []) = cond (nat_eq row.id 0 && is_folder row.content) (Goes (Loads (HasRoot number row))) (Tears 0)
+root_taken number (row ∷ next ∷ rows) = CannotBeRead
 
 -- a page whose number did not change is judged: a refusal in its place, or rows that do not fit, cannot be
-abbrev pub page_taken : ℕ → Listing → Option (List ObjectRow) → Taken
-page_taken number listing None = Torn (listed_id listing)
-page_taken number listing (Some page) = cond (fits listing page) (Holds (after_page number listing page)) (Torn (listed_id listing))
+abbrev pub page_taken : ℕ → Listing → Option (List ObjectRow) → Outcome Held
+page_taken number listing None = Tears (listed_id listing)
+page_taken number listing (Some page) = cond (fits listing page) (Goes (after_page number listing page)) (Tears (listed_id listing))
+
+-- what becomes of what was shown to a load that runs
+abbrev pub stage_taken : Stage → Shown → Outcome Held
+stage_taken Begun (Text token) = Goes (Loads HasToken)
+stage_taken HasToken (Number n) = Goes (Loads (HasNumber n))
+stage_taken (HasNumber number) (Page rows total update) = root_taken number rows
+stage_taken (HasRoot number root) (Number n) = Goes (cond (nat_eq n number) (Loads (Lists number (listing_of root))) (Loads Begun))
+stage_taken (Lists number listing) (Page rows total update) = Goes (Loads (HasPage number listing (Some rows)))
+stage_taken (Lists number listing) (Fault code) = Goes (Loads (HasPage number listing None))
+stage_taken (HasPage number listing page) (Number n) = cond (nat_eq n number) (page_taken number listing page) (Goes (Loads Begun))
+stage_taken stage shown = CannotBeRead
 
 -- what becomes of what was shown, by what is held
-abbrev pub taken : Held → Shown → Taken
-taken Idle shown = Unreadable
-taken Begun (Text token) = Holds HasToken
-taken Begun (Number n) = Unreadable
-taken Begun (Page rows total update) = Unreadable
-taken Begun (Fault code) = Unreadable
-taken HasToken (Text token) = Unreadable
-taken HasToken (Number n) = Holds (HasNumber n)
-taken HasToken (Page rows total update) = Unreadable
-taken HasToken (Fault code) = Unreadable
-taken (HasNumber number) (Text token) = Unreadable
-taken (HasNumber number) (Number n) = Unreadable
-taken (HasNumber number) (Page rows total update) = root_taken number rows
-taken (HasNumber number) (Fault code) = Unreadable
-taken (HasRoot number root) (Text token) = Unreadable
-taken (HasRoot number root) (Number n) = Holds (cond (nat_eq n number) (Lists number (listing_of root)) Begun)
-taken (HasRoot number root) (Page rows total update) = Unreadable
-taken (HasRoot number root) (Fault code) = Unreadable
-taken (Lists number listing) (Text token) = Unreadable
-taken (Lists number listing) (Number n) = Unreadable
-taken (Lists number listing) (Page rows total update) = Holds (HasPage number listing (Some rows))
-taken (Lists number listing) (Fault code) = Holds (HasPage number listing None)
-taken (HasPage number listing page) (Text token) = Unreadable
-taken (HasPage number listing page) (Number n) = cond (nat_eq n number) (page_taken number listing page) (Holds Begun)
-taken (HasPage number listing page) (Page rows total update) = Unreadable
-taken (HasPage number listing page) (Fault code) = Unreadable
-taken (HasCopy number rows) shown = Unreadable
+abbrev pub taken : Held → Shown → Outcome Held
+taken Idle shown = CannotBeRead
+taken (Loads stage) shown = stage_taken stage shown
+taken (HasCopy number rows) shown = CannotBeRead
 
--- the next read, if a load runs
+-- the next read of a load that runs, and of what is held
+abbrev pub stage_ask : Stage → Ask
+stage_ask Begun = Token
+stage_ask HasToken = AskNumber
+stage_ask (HasNumber number) = Metadata 0
+stage_ask (HasRoot number root) = AskNumber
+stage_ask (Lists number listing) = Children (listed_id listing) (length listing.part)
+stage_ask (HasPage number listing page) = AskNumber
+
 abbrev pub next_ask : Held → Option Ask
 next_ask Idle = None
-next_ask Begun = Some Token
-next_ask HasToken = Some AskNumber
-next_ask (HasNumber number) = Some (Metadata 0)
-next_ask (HasRoot number root) = Some AskNumber
-next_ask (Lists number listing) = Some (Children (listed_id listing) (length listing.part))
-next_ask (HasPage number listing page) = Some AskNumber
+next_ask (Loads stage) = Some (stage_ask stage)
 next_ask (HasCopy number rows) = None
 
 -- what is said of a load: it has not ended, or a copy of a number stands
@@ -181,23 +170,13 @@ pub data Said : Type 0 where
 
 abbrev pub says : Held → Said
 says Idle = BehindLoad
-says Begun = BehindLoad
-says HasToken = BehindLoad
-says (HasNumber number) = BehindLoad
-says (HasRoot number root) = BehindLoad
-says (Lists number listing) = BehindLoad
-says (HasPage number listing page) = BehindLoad
+says (Loads stage) = BehindLoad
 says (HasCopy number rows) = Stands number
 
 -- the rows of the copy; if none stands there are none
 abbrev pub copied : Held → List ObjectRow
 copied Idle = []
-copied Begun = []
-copied HasToken = []
-copied (HasNumber number) = []
-copied (HasRoot number root) = []
-copied (Lists number listing) = []
-copied (HasPage number listing page) = []
+copied (Loads stage) = []
 copied (HasCopy number rows) = rows
 
 -- one turn of a replica: a load is begun, or a reply shows something
@@ -205,14 +184,8 @@ pub data ReplicaTurn : Type 0 where
   Begins : ReplicaTurn
   Shows : Shown → ReplicaTurn
 
--- what is held after a reply: a refused one changes nothing
-abbrev pub held_after : Held → Taken → Held
-held_after held (Holds now) = now
-held_after held Unreadable = held
-held_after held (Torn id) = held
-
 -- what a replica holds after its turns, the newest first
 abbrev pub held_by : List ReplicaTurn → Held
 held_by [] = Idle
-held_by (Begins ∷ older) = Begun
-held_by (Shows shown ∷ older) = held_after (held_by older) (taken (held_by older) shown)
+held_by (Begins ∷ older) = Loads Begun
+held_by (Shows shown ∷ older) = after_outcome (held_by older) (taken (held_by older) shown)

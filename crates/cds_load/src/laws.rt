@@ -3,28 +3,11 @@
 ghost use Rattle.cds_load.specs.Attempts as attempts;
 ghost use Rattle.cds_load.specs.Loads as laws;
 ghost use Rattle.cds_load.specs.Seen as seen;
-ghost use Rattle.cds_load.specs.Servers as servers;
 
 /// States that a load from a server whose number stays ends after exactly the reads that it takes, with the server's rows, and
 /// runs until then.
 pub fn loads_end()
     ensures { laws.loads_end }
-{}
-
-/// States that a history of scans is an honest server. At each length it has the catalog and the number of this many of its
-/// oldest scans.
-pub fn histories_are_servers()
-    ensures { servers.histories_are_servers }
-{}
-
-/// States that no reply of an honest server is refused.
-pub fn honest_replies_are_taken()
-    ensures { laws.honest_replies_are_taken }
-{}
-
-/// States that a copy that was made of an honest server's replies has the rows that stood at its number.
-pub fn honest_copies_stood()
-    ensures { laws.honest_copies_stood }
 {}
 
 /// States that each row of a copy has the id, the content and the objectUpdateID of a row that a reply showed, whatever server

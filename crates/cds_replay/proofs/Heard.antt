@@ -10,7 +10,7 @@ use Rattle.cds_load.specs.declared.exchange.Shown.{Shown}
 use Rattle.cds_load.specs.declared.exchange.Shown.TheVariants.{Text, Number, Page, Fault}
 use Rattle.cds_commands.specs.Notes.{Note}
 use Rattle.cds_follow.specs.Inbox.{ReplicaTurn, Shows, Accepts, Refuses, Delivers, taken_by, Arrival, arrival}
-use Rattle.cds_follow.specs.Follow.{Known, Outcome, Knows, CannotBeRead, Jumps, Tears, known_by, next_ask, with_notes, is_no}
+use Rattle.cds_follow.specs.Follow.{Known, known_by, next_ask, with_notes}
 use Rattle.cds_follow.specs.Named.{named, named_note}
 use Rattle.cds_replica.specs.Answer.{read_of}
 use Rattle.cds_replica.specs.Calls.{IsAcceptance, IsNotice, IsTaken, TakesTurn, GoesOn, UnlessNoMemory}
@@ -31,6 +31,7 @@ use Rattle.cds_replay.specs.Session.{ReplyTaken, NameTaken, NoteTaken, RefusalIs
 use Rattle.cds_replay.specs.Wired.{and_read, refuses_read, refuses_arrival, read_text_by}
 use Rattle.cds_replay.specs.declared.session.TurnError.TheVariants.{Refused}
 use Rattle.cds_replay.proofs.Apart.{knows-same}
+use Rattle.cds_load.specs.Outcome.{Outcome, Goes, CannotBeRead, Jumps, Tears, is_no}
 
 -- ---- what was read of a reply
 
@@ -58,9 +59,9 @@ line-is (Page rows total update) = refl
 line-is (Fault code) = refl
 
 text-is : (o : Option Asked) (read : Option Shown) (bytes : List ℕ) (known : Known) (now : Known) (r : Read) → IsSome o → IsNextReading o bytes read →
-    with_reading known read ≡ Knows now → WhereShown o bytes (λ (shown : Shown). r ≡ read_of shown) → read_line r ≡ read_text_by o read
+    with_reading known read ≡ Goes now → WhereShown o bytes (λ (shown : Shown). r ≡ read_of shown) → read_line r ≡ read_text_by o read
 text-is None read bytes known now r some is taken shows = none-asked _ some
-text-is (Some ask) None bytes known now r some is taken shows = let never : CannotBeRead ≡ Knows now = taken in absurd (cc)
+text-is (Some ask) None bytes known now r some is taken shows = let never : CannotBeRead ≡ Goes now = taken in absurd (cc)
 text-is (Some ask) (Some shown) bytes known now r some is taken shows = ap read_line (shows shown is) ∙ line-is shown
 
 module _ (old new : ReplicaState) (turns : List ReplicaTurn) (bytes was out : List ℕ) (some : IsSome (phase_ask old.known.phase))
@@ -108,7 +109,7 @@ module _ (old new : ReplicaState) (turns : List ReplicaTurn) (bytes was out : Li
       )
 
   -- nothing comes of it
-  refused-by : (read : Option Shown) (outcome : Outcome) → with_reading (known_by there) read ≡ outcome → is_no outcome ≡ true → refuses_read o read turns ≡ true
+  refused-by : (read : Option Shown) (outcome : Outcome Known) → with_reading (known_by there) read ≡ outcome → is_no outcome ≡ true → refuses_read o read turns ≡ true
   refused-by read outcome is never = sym (refuses-is o read turns asked) ∙ ap is_no (sym (reads-same read) ∙ is) ∙ never
 
   pub reply-refused : (e : AnswerError) → (e ≡ AnswerMem → ⊥) → IsRead (phase_ask old.known.phase) bytes (Err e) → AnswersReply old bytes (Err e) → out ≡ was →
@@ -128,7 +129,7 @@ module _ (old new : ReplicaState) (turns : List ReplicaTurn) (bytes was out : Li
 
 module _ (old new : ReplicaState) (turns : List ReplicaTurn) (name sid : ℕ) (was out : List ℕ) (stood : StandsFor old (named script_names turns))
     (is : sid ≡ script_names name) where
-  abbrev becomes : ℕ → Outcome
+  abbrev becomes : ℕ → Outcome Known
   becomes s = with_notes (taken_by (Accepts s) (named script_names turns)) (known_by (named script_names turns))
 
   comes : becomes sid ≡ with_notes (taken_by (Accepts name) turns) (known_by turns)
@@ -168,7 +169,7 @@ noticed (Err (Torn id)) told fact = fact
 noticed (Err NoMemory) told fact = absurd (cc)
 
 -- a note that is not refused for its changes is taken, or turned away with an answer, and its delivery writes that answer
-arrives-so : (arrives : Arrival) (outcome : Outcome) (answer : Result Taken NotifyError) → was_noticed answer ≡ true → can_be_told answer ≡ true →
+arrives-so : (arrives : Arrival) (outcome : Outcome Known) (answer : Result Taken NotifyError) → was_noticed answer ≡ true → can_be_told answer ≡ true →
     IsNotice arrives outcome answer → (refuses_arrival arrives outcome ≡ false) × (taken_text answer ≡ arrival_text arrives)
 arrives-so arrives outcome (Ok Took) told can notice =
     (ap (λ a. refuses_arrival a outcome) notice.0 ∙ ap is_no notice.1.1, ap arrival_text (sym notice.0))
@@ -181,7 +182,7 @@ arrives-so arrives outcome (Err (Jump expected first)) told can notice = absurd 
 arrives-so arrives outcome (Err (Torn id)) told can notice = absurd (cc)
 arrives-so arrives outcome (Err NoMemory) told can notice = absurd (cc)
 
-refused-so : (arrives : Arrival) (outcome : Outcome) (answer : Result Taken NotifyError) → can_be_told answer ≡ false → IsNotice arrives outcome answer →
+refused-so : (arrives : Arrival) (outcome : Outcome Known) (answer : Result Taken NotifyError) → can_be_told answer ≡ false → IsNotice arrives outcome answer →
     refuses_arrival arrives outcome ≡ true
 refused-so arrives outcome (Ok taken) cannot notice = absurd (cc)
 refused-so arrives outcome (Err Unknown) cannot notice = absurd (cc)
@@ -199,7 +200,7 @@ module _ (old new : ReplicaState) (turns : List ReplicaTurn) (number : ℕ) (not
   notices : Notices note → IsNotice (arrival told turns) (with_notes (taken_by (Delivers told) turns) (known_by turns)) answer
   notices notice =
       subst (λ (a : Arrival). IsNotice a (with_notes (taken_by (Delivers told) turns) (known_by turns)) answer) ((knows-same turns).hears told)
-      (subst (λ (w : Outcome). IsNotice (arrival (named_note script_names told) (named script_names turns)) w answer) ((knows-same turns).takes (Delivers told))
+      (subst (λ (w : Outcome Known). IsNotice (arrival (named_note script_names told) (named script_names turns)) w answer) ((knows-same turns).takes (Delivers told))
       (subst Notices is notice))
 
   pub note-taken : was_noticed answer ≡ true → can_be_told answer ≡ true → UnlessNoMemory answer (TakesTurn old (Delivers note) new) → Notices note →

@@ -3,7 +3,6 @@ use Rattle.std.proofs.Common.{◌≡◌, ◌⊎◌, inl, inr, ℕ, ◌+◌, ◌�
 use Rattle.std.specs.List.{AllByRecursion}
 use Rattle.std.proofs.lemmas.List.{append-nil}
 use Rattle.cds_object.specs.Object.{ObjectRow}
-use Rattle.cds_object.specs.declared.record.Record.{Record}
 use Rattle.cds_load.specs.Server.{Moment, reply_to}
 use Rattle.cds_load.specs.declared.exchange.Ask.{Ask as Asked}
 use Rattle.cds_load.specs.declared.exchange.Shown.{Shown}
@@ -14,16 +13,15 @@ use Rattle.cds_exchange.proofs.Honest.{honest-replies-are-read}
 use Rattle.cds_exchange.proofs.Moments.{moments-can-be-shown}
 use Rattle.cds_exchange.proofs.Bases.{hosts-make-bases}
 use Rattle.cds_commands.specs.Notes.{Note, notes_of}
-use Rattle.cds_follow.specs.Inbox.{ReplicaTurn, Shows, Accepts, Delivers, Arrival, IsUnknown, IsRepeat, IsTooMany, IsEarly, IsHeld, IsNext, arrival, taken_by}
-use Rattle.cds_follow.specs.Follow.{Known, Outcome, Knows, known_by, next_ask, with_reply, with_notes, says, copied, is_no}
+use Rattle.cds_follow.specs.Inbox.{ReplicaTurn, Accepts, Delivers, Arrival, IsUnknown, IsRepeat, IsTooMany, IsEarly, IsHeld, IsNext, arrival, taken_by}
+use Rattle.cds_follow.specs.Follow.{Known, known_by, next_ask, with_reply, with_notes, says, copied}
 use Rattle.cds_follow.specs.Given.{moment_after, asked_at}
 use Rattle.cds_follow.specs.declared.says.Says.{Says}
 use Rattle.cds_follow.specs.declared.says.Says.TheVariants.{Gap, BehindLoad, BehindRead, BehindVersion, Stands}
 use Rattle.cds_script.specs.Lines.{lines_of, ended_lines, script_limit, line_limit}
-use Rattle.cds_script.specs.Played.{MayBe, AllStand}
-use Rattle.cds_script.specs.Report.{Played, Ending, script_token, number_of, first_of, clock_of, records_since, history_of, sent_note, play, played, read_text, written, written_by, answer_text, may_stand, written_first, outside_ending, limit_ending, ending_at, ending_from, script_ending}
+use Rattle.cds_script.specs.Played.{MayBe}
+use Rattle.cds_script.specs.Report.{Played, Ending, script_token, first_of, clock_of, records_since, history_of, sent_note, play, played, read_text, written_by, answer_text, may_stand, written_first, outside_ending, limit_ending, ending_at, ending_from, script_ending}
 use Rattle.cds_script.specs.Script.{IsInRange, MeansInRange, meaning_of}
-use Rattle.cds_script.specs.ScriptGiven.{AreTaken}
 use Rattle.cds_script.specs.declared.reply.HeldReply.{HeldReply}
 use Rattle.cds_script.specs.declared.reply.HeldReply.TheVariants.{NoReply, Named, Refusal}
 use Rattle.cds_script.specs.declared.turn.Meaning.{Meaning}
@@ -33,9 +31,10 @@ use Rattle.cds_script.specs.declared.turn.ScriptTurn.TheVariants.{Folder, Track,
 use Rattle.cds_script.proofs.MayBe.{lines-range}
 use Rattle.cds_script.proofs.Stood.{turns-taken, stands-at}
 use Rattle.cds_replay.specs.Lines.{known_text}
-use Rattle.cds_replay.specs.Wire.{WiredEnding, unrefused, refused_at, wired_first, script_base, server_reply, Either, IsLeftOf, IsReadBy, AreReadBy, EndsAtStep, EndsAtLine, EndsFrom, EndsOver, lines_in, straight_wires_are_taken, straight_reports_are_the_scripts}
-use Rattle.cds_replay.specs.Wired.{ReplayStep, turns_in, and_read, play_read, played_by, moment_by, may_stand_by, refuses_read, refuses_reply, refuses_arrival, refuses_note, refuses_turn, refuses, read_text_by, written_read, written_on, AllStandBy, MayBeBy}
+use Rattle.cds_replay.specs.Wire.{WiredEnding, unrefused, refused_at, wired_first, script_base, server_reply, Either, IsLeftOf, IsReadBy, AreReadBy, EndsAtStep, EndsAtLine, EndsFrom, EndsOver, straight_wires_are_taken, straight_reports_are_the_scripts}
+use Rattle.cds_replay.specs.Wired.{ReplayStep, turns_in, and_read, play_read, played_by, moment_by, may_stand_by, refuses_read, refuses_reply, refuses_arrival, refuses_note, refuses_turn, refuses, read_text_by, written_read, written_on, AllStandBy}
 use Rattle.cds_replay.proofs.PlainScans.{moment-plain}
+use Rattle.cds_load.specs.Outcome.{Outcome, Goes, is_no}
 
 -- ---- what is read of an honest reply
 
@@ -63,7 +62,7 @@ honest-turns moment o read turns (inr h) =
     (λ i. and_read (h.1 i) (h.2 i) turns) ∙ sym (ap (asked_at moment turns) h.1)
 
 honest-takes : (moment : Moment) (o : Option Asked) (read : Option Shown) (turns : List ReplicaTurn) → IsHonest moment o read →
-    ((ask : Asked) → o ≡ Some ask → (now : Known) × (with_reply (known_by turns) (known_by turns).held (reply_to moment ask) ≡ Knows now)) → refuses_read o read turns ≡ false
+    ((ask : Asked) → o ≡ Some ask → (now : Known) × (with_reply (known_by turns) (known_by turns).held (reply_to moment ask) ≡ Goes now)) → refuses_read o read turns ≡ false
 honest-takes moment o read turns (inl none) taken = ap (λ a. refuses_read a read turns) none
 honest-takes moment o read turns (inr h) taken = (λ i. refuses_read (h.1 i) (h.2 i) turns) ∙ ap is_no (taken h.0 h.1).1
 
@@ -150,12 +149,12 @@ module _ (carried : List ℕ → List ℕ) (straight : (bytes : List ℕ) → ca
 
   -- what becomes of it
   reply-takes : (reply : HeldReply) (turns : List ReplicaTurn) →
-      ((name : ℕ) → reply ≡ Named name → (now : Known) × (with_notes (taken_by (Accepts name) turns) (known_by turns) ≡ Knows now)) → refuses_reply reply turns ≡ false
+      ((name : ℕ) → reply ≡ Named name → (now : Known) × (with_notes (taken_by (Accepts name) turns) (known_by turns) ≡ Goes now)) → refuses_reply reply turns ≡ false
   reply-takes NoReply turns taken = refl
   reply-takes (Named name) turns taken = ap is_no (taken name refl).1
   reply-takes Refusal turns taken = refl
 
-  arrival-takes : (arrives : Arrival) (outcome : Outcome) (now : Known) → outcome ≡ Knows now → refuses_arrival arrives outcome ≡ false
+  arrival-takes : (arrives : Arrival) (outcome : Outcome Known) (now : Known) → outcome ≡ Goes now → refuses_arrival arrives outcome ≡ false
   arrival-takes IsUnknown outcome now is = refl
   arrival-takes IsRepeat outcome now is = refl
   arrival-takes (IsTooMany held) outcome now is = refl
@@ -164,7 +163,7 @@ module _ (carried : List ℕ → List ℕ) (straight : (bytes : List ℕ) → ca
   arrival-takes IsNext outcome now is = ap is_no is
 
   note-takes : (o : Option Note) (turns : List ReplicaTurn) →
-      ((note : Note) → o ≡ Some note → (now : Known) × (with_notes (taken_by (Delivers note) turns) (known_by turns) ≡ Knows now)) → refuses_note o turns ≡ false
+      ((note : Note) → o ≡ Some note → (now : Known) × (with_notes (taken_by (Delivers note) turns) (known_by turns) ≡ Goes now)) → refuses_note o turns ≡ false
   note-takes None turns taken = refl
   note-takes (Some note) turns taken =
       let t = taken note refl in arrival-takes (arrival note turns) (with_notes (taken_by (Delivers note) turns) (known_by turns)) t.0 t.1

@@ -7,7 +7,7 @@ use Rattle.cds_load.specs.declared.exchange.Ask.{Ask as Asked}
 use Rattle.cds_load.specs.declared.exchange.Shown.{Shown}
 use Rattle.cds_commands.specs.Notes.{Note, notes_of}
 use Rattle.cds_follow.specs.Inbox.{ReplicaTurn, Shows, Accepts, Delivers, Arrival, IsUnknown, IsRepeat, IsTooMany, IsEarly, IsHeld, IsNext, arrival, taken_by}
-use Rattle.cds_follow.specs.Follow.{Outcome, known_by, next_ask, says, copied, with_notes, is_no, is_refused}
+use Rattle.cds_follow.specs.Follow.{Known, known_by, next_ask, says, copied, with_notes, is_refused}
 use Rattle.cds_follow.specs.Given.{moment_after}
 use Rattle.cds_replica.specs.Replies.{and_shown}
 use Rattle.cds_script.specs.Report.{Played, script_token, first_of, clock_of, records_since, sent_note, play, reply_text, written, may_stand}
@@ -17,6 +17,7 @@ use Rattle.cds_script.specs.declared.turn.ScriptTurn.{ScriptTurn}
 use Rattle.cds_script.specs.declared.turn.ScriptTurn.TheVariants.{Read, Ask, Accept, Deliver}
 use Rattle.cds_script.specs.Script.{IsInRange}
 use Rattle.cds_replay.specs.Lines.{known_text}
+use Rattle.cds_load.specs.Outcome.{Outcome, is_no}
 
 -- a turn, and what the reply to it was read as: it may be nothing, and only a read that asks for something has a reply
 pub record ReplayStep : Type 0 where
@@ -70,7 +71,7 @@ refuses_reply Refusal turns = false
 
 -- a note that is the next one, if it or those that follow it tell what cannot be. To a note of another name, and to one too many,
 -- the replica has its answers
-abbrev pub refuses_arrival : Arrival → Outcome → Bool
+abbrev pub refuses_arrival : Arrival → Outcome Known → Bool
 refuses_arrival IsUnknown outcome = false
 refuses_arrival IsRepeat outcome = false
 refuses_arrival (IsTooMany held) outcome = false

@@ -4,14 +4,14 @@ use Rattle.std.specs.Prelude.{IfSome, option_copied, slice_get}
 use Rattle.std.specs.List.{AllByRecursion}
 use Rattle.cds_object.specs.Object.{ObjectRow}
 use Rattle.cds_object.specs.declared.event.Event.{Event}
-use Rattle.cds_load.specs.Attempts.{Verdict, CannotBe as CannotCome, verdict_of, attempt_of, says_by, ShowsRows}
-use Rattle.cds_load.specs.Stages.{Held, Idle, Begun, HasToken, HasNumber, HasRoot, Lists, HasPage, HasCopy, Taken, Holds, Unreadable as NotReadable, Torn as CannotBe, Shows as LoadShows, held_after, held_by, taken, next_ask as load_ask, says as load_says, copied as load_copied, BehindLoad as LoadRuns, Stands as LoadStands}
+use Rattle.cds_load.specs.Attempts.{Verdict, verdict_of, attempt_of, says_by, ShowsRows}
+use Rattle.cds_load.specs.Stages.{Held, Idle, HasCopy, Shows as LoadShows, held_by, taken, next_ask as load_ask, says as load_says, copied as load_copied, BehindLoad as LoadRuns, Stands as LoadStands, Loads}
 use Rattle.cds_load.specs.declared.exchange.Ask.{Ask}
 use Rattle.cds_load.specs.declared.exchange.Read.{Read}
 use Rattle.cds_load.specs.declared.exchange.Shown.{Shown}
 use Rattle.cds_follow.specs.Copy.{KnownRow, Happening, rows_after, least_unread, read_up_to}
 use Rattle.cds_follow.specs.Inbox.{ReplicaTurn}
-use Rattle.cds_follow.specs.Follow.{Known, position, Outcome, Knows, CannotBeRead, Jumps, Tears, first_torn, judged, counted_from, load_ended, loaded, with_reply, known_by, next_ask, ask_of, copy_says, says_without_gap, says_of, says, copied}
+use Rattle.cds_follow.specs.Follow.{Known, position, first_torn, judged, counted_from, load_ended, loaded, with_reply, known_by, next_ask, ask_of, copy_says, says_without_gap, says_of, says, copied}
 use Rattle.cds_commands.specs.Notes.{changes_above}
 use Rattle.cds_follow.specs.KnownLaws.{has_copy}
 use Rattle.cds_follow.specs.LoadTurns.{load_turns}
@@ -25,21 +25,18 @@ use Rattle.cds_replica.specs.State.{phase_of, ReplicaState, StandsFor}
 use Rattle.cds_replica.proofs.KeptCounts.{known-copied}
 use Rattle.cds_follow.proofs.LoadTurns.{loads-are-of-turns}
 use Rattle.cds_follow.proofs.Seen.{copies-shown}
+use Rattle.cds_load.proofs.NoJumps.{no-jump}
 use Rattle.cds_load.proofs.Traces.{asks-of_attempts, refusals-of_attempts, answers-of_attempts, copies-of_attempts}
 use Rattle.cds_replica.specs.declared.error.AnswerError.{AnswerError}
 use Rattle.cds_replica.specs.declared.error.AnswerError.TheVariants.{Unreadable, Jump, Torn, Mem}
 use Rattle.cds_object.specs.Events.{update_of}
+use Rattle.cds_load.specs.Outcome.{Outcome, Goes, CannotBeRead, Jumps, Tears, after_outcome}
 
 -- ---- the next ask
 
 ask-load : (known : Known) (held : Held) → has_copy held ≡ false → ask_of known held ≡ load_ask held
 ask-load known Idle e = refl
-ask-load known Begun e = refl
-ask-load known HasToken e = refl
-ask-load known (HasNumber number) e = refl
-ask-load known (HasRoot number root) e = refl
-ask-load known (Lists number listing) e = refl
-ask-load known (HasPage number listing page) e = refl
+ask-load known (Loads stage) e = refl
 ask-load known (HasCopy number rows) e = absurd (true≢false e)
 
 pub asks-by_attempt : (kept : ReplicaState) (result : Option Ask) → ((turns : List ReplicaTurn) → StandsFor kept turns → result ≡ next_ask (known_by turns)) → AsksByAttempt kept result
@@ -57,74 +54,67 @@ counted-read rows known at (event ∷ events) e = by (nat_eq (update_of event) (
     by true None f = cc
     by false o f = cc
 
-loaded-read : (known : Known) (held : Held) → loaded known (Holds held) ≡ CannotBeRead → ⊥
+loaded-read : (known : Known) (held : Held) → loaded known (Goes held) ≡ CannotBeRead → ⊥
 loaded-read known Idle e = cc
-loaded-read known Begun e = cc
-loaded-read known HasToken e = cc
-loaded-read known (HasNumber number) e = cc
-loaded-read known (HasRoot number root) e = cc
-loaded-read known (Lists number listing) e = cc
-loaded-read known (HasPage number listing page) e = cc
+loaded-read known (Loads stage) e = cc
 loaded-read known (HasCopy number rows) e =
     counted-read rows (record { held = HasCopy number rows; base = number; last_note = known.last_note; kept = []; happenings = [] }) number (changes_above number known.kept) e
 
 -- a reply that ends the load with a refusal
-ends-refused : (turns : List ReplicaTurn) (shown : Shown) → ShowsRows (LoadShows shown ∷ load_turns turns) → (held : Held) (outcome : Outcome) →
-    taken (held_by (load_turns turns)) shown ≡ Holds held → loaded (known_by turns) (Holds held) ≡ outcome → ((now : Known) → outcome ≡ Knows now → ⊥) → EndsRefused turns shown outcome
+ends-refused : (turns : List ReplicaTurn) (shown : Shown) → ShowsRows (LoadShows shown ∷ load_turns turns) → (held : Held) (outcome : Outcome Known) →
+    taken (held_by (load_turns turns)) shown ≡ Goes held → loaded (known_by turns) (Goes held) ≡ outcome → ((now : Known) → outcome ≡ Goes now → ⊥) → EndsRefused turns shown outcome
 ends-refused turns shown rows Idle outcome becomes is never = absurd (never _ (sym is))
-ends-refused turns shown rows Begun outcome becomes is never = absurd (never _ (sym is))
-ends-refused turns shown rows HasToken outcome becomes is never = absurd (never _ (sym is))
-ends-refused turns shown rows (HasNumber number) outcome becomes is never = absurd (never _ (sym is))
-ends-refused turns shown rows (HasRoot number root) outcome becomes is never = absurd (never _ (sym is))
-ends-refused turns shown rows (Lists number listing) outcome becomes is never = absurd (never _ (sym is))
-ends-refused turns shown rows (HasPage number listing page) outcome becomes is never = absurd (never _ (sym is))
+ends-refused turns shown rows (Loads stage) outcome becomes is never = absurd (never _ (sym is))
 ends-refused turns shown rows (HasCopy number copy) outcome becomes is never =
-    let now : held_by (LoadShows shown ∷ load_turns turns) ≡ HasCopy number copy = ap (held_after (held_by (load_turns turns))) becomes in
+    let now : held_by (LoadShows shown ∷ load_turns turns) ≡ HasCopy number copy = ap (after_outcome (held_by (load_turns turns))) becomes in
     record {
       number = number;
       complete = sym (answers-of_attempts (LoadShows shown ∷ load_turns turns) rows) ∙ ap load_says now;
       refused = ap (load_ended (known_by turns) number) (sym (copies-of_attempts (LoadShows shown ∷ load_turns turns) rows) ∙ ap load_copied now) ∙ is;
     }
 
-verdict-loaded : (turns : List ReplicaTurn) (shown : Shown) → ShowsRows (LoadShows shown ∷ load_turns turns) → (becomes : Taken) → taken (held_by (load_turns turns)) shown ≡ becomes →
+-- what cannot be of this object, as a verdict and as an outcome
+abbrev verdict-torn : ℕ → Verdict
+verdict-torn id = Tears id
+
+abbrev outcome-torn : ℕ → Outcome Known
+outcome-torn id = Tears id
+
+verdict-loaded : (turns : List ReplicaTurn) (shown : Shown) → ShowsRows (LoadShows shown ∷ load_turns turns) → (becomes : Outcome Held) → taken (held_by (load_turns turns)) shown ≡ becomes →
     (result : Result Read AnswerError) → IsAnswer (loaded (known_by turns) becomes) result → IsVerdict turns shown (verdict_of becomes) result
-verdict-loaded turns shown rows NotReadable e (Ok read) is = let no : CannotBeRead ≡ Knows is.0 = is.1 in cc
-verdict-loaded turns shown rows NotReadable e (Err Unreadable) is = refl
-verdict-loaded turns shown rows NotReadable e (Err (Jump expected first)) is = cc
-verdict-loaded turns shown rows NotReadable e (Err (Torn id)) is = cc
-verdict-loaded turns shown rows NotReadable e (Err Mem) is = tt
-verdict-loaded turns shown rows (CannotBe other) e (Ok read) is = let no : Tears other ≡ Knows is.0 = is.1 in cc
-verdict-loaded turns shown rows (CannotBe other) e (Err Unreadable) is = cc
-verdict-loaded turns shown rows (CannotBe other) e (Err (Jump expected first)) is = cc
-verdict-loaded turns shown rows (CannotBe other) e (Err (Torn id)) is = inl same
+verdict-loaded turns shown rows CannotBeRead e (Ok read) is = let no : CannotBeRead ≡ Goes is.0 = is.1 in cc
+verdict-loaded turns shown rows CannotBeRead e (Err Unreadable) is = refl
+verdict-loaded turns shown rows CannotBeRead e (Err (Jump expected first)) is = cc
+verdict-loaded turns shown rows CannotBeRead e (Err (Torn id)) is = cc
+verdict-loaded turns shown rows CannotBeRead e (Err Mem) is = tt
+verdict-loaded turns shown rows (Jumps expected first) e result is = absurd (no-jump (held_by (load_turns turns)) shown expected first e)
+verdict-loaded turns shown rows (Tears other) e (Ok read) is = let no : Tears other ≡ Goes is.0 = is.1 in cc
+verdict-loaded turns shown rows (Tears other) e (Err Unreadable) is = cc
+verdict-loaded turns shown rows (Tears other) e (Err (Jump expected first)) is = cc
+verdict-loaded turns shown rows (Tears other) e (Err (Torn id)) is = inl same
   where
-    same : CannotCome other ≡ CannotCome id
-    same = ap (λ (n : ℕ). CannotCome n) (tears other id is)
+    same : verdict-torn other ≡ verdict-torn id
+    same = ap verdict-torn (tears other id is)
       where
-        tears : (a b : ℕ) → Tears a ≡ Tears b → a ≡ b
+        tears : (a b : ℕ) → outcome-torn a ≡ outcome-torn b → a ≡ b
         tears a b e = cc
-verdict-loaded turns shown rows (CannotBe other) e (Err Mem) is = tt
-verdict-loaded turns shown rows (Holds held) e (Ok read) is = refl
-verdict-loaded turns shown rows (Holds held) e (Err Unreadable) is = absurd (loaded-read (known_by turns) held is)
-verdict-loaded turns shown rows (Holds held) e (Err (Jump expected first)) is =
+verdict-loaded turns shown rows (Tears other) e (Err Mem) is = tt
+verdict-loaded turns shown rows (Goes held) e (Ok read) is = refl
+verdict-loaded turns shown rows (Goes held) e (Err Unreadable) is = absurd (loaded-read (known_by turns) held is)
+verdict-loaded turns shown rows (Goes held) e (Err (Jump expected first)) is =
     (refl, ends-refused turns shown rows held (Jumps expected first) e is (apart expected first))
   where
-    apart : (n m : ℕ) (now : Known) → Jumps n m ≡ Knows now → ⊥
+    apart : (n m : ℕ) (now : Known) → Jumps n m ≡ Goes now → ⊥
     apart n m now f = cc
-verdict-loaded turns shown rows (Holds held) e (Err (Torn id)) is = inr (refl, ends-refused turns shown rows held (Tears id) e is (apart id))
+verdict-loaded turns shown rows (Goes held) e (Err (Torn id)) is = inr (refl, ends-refused turns shown rows held (Tears id) e is (apart id))
   where
-    apart : (n : ℕ) (now : Known) → Tears n ≡ Knows now → ⊥
+    apart : (n : ℕ) (now : Known) → Tears n ≡ Goes now → ⊥
     apart n now f = cc
-verdict-loaded turns shown rows (Holds held) e (Err Mem) is = tt
+verdict-loaded turns shown rows (Goes held) e (Err Mem) is = tt
 
 reply-loaded : (known : Known) (held : Held) (shown : Shown) → has_copy held ≡ false → with_reply known held shown ≡ loaded known (taken held shown)
 reply-loaded known Idle shown e = refl
-reply-loaded known Begun shown e = refl
-reply-loaded known HasToken shown e = refl
-reply-loaded known (HasNumber number) shown e = refl
-reply-loaded known (HasRoot number root) shown e = refl
-reply-loaded known (Lists number listing) shown e = refl
-reply-loaded known (HasPage number listing page) shown e = refl
+reply-loaded known (Loads stage) shown e = refl
 reply-loaded known (HasCopy number rows) shown e = absurd (true≢false e)
 
 pub takes-by_attempt : (kept : ReplicaState) (shown : Shown) (result : Result Read AnswerError)
@@ -132,7 +122,7 @@ pub takes-by_attempt : (kept : ReplicaState) (shown : Shown) (result : Result Re
 takes-by_attempt kept shown result answer turns stood rows load =
     subst (λ (v : Verdict). IsVerdict turns shown v result) (refusals-of_attempts (load_turns turns) shown rows)
     (verdict-loaded turns shown rows (taken (held_by (load_turns turns)) shown) refl result
-    (subst (λ (o : Outcome). IsAnswer o result)
+    (subst (λ (o : Outcome Known). IsAnswer o result)
     (reply-loaded (known_by turns) (known_by turns).held shown load ∙ ap (λ (h : Held). loaded (known_by turns) (taken h shown)) (loads-are-of-turns turns)) (answer turns stood)))
 
 -- ---- whether a copy stands
@@ -147,12 +137,7 @@ copy-runs known None e = by (nat_lt (position known) (read_up_to known.happening
 
 runs-same : (known : Known) (held : Held) → (says_without_gap known held ≡ BehindLoad → load_says held ≡ LoadRuns) × (load_says held ≡ LoadRuns → says_without_gap known held ≡ BehindLoad)
 runs-same known Idle = (λ e. refl, λ e. refl)
-runs-same known Begun = (λ e. refl, λ e. refl)
-runs-same known HasToken = (λ e. refl, λ e. refl)
-runs-same known (HasNumber number) = (λ e. refl, λ e. refl)
-runs-same known (HasRoot number root) = (λ e. refl, λ e. refl)
-runs-same known (Lists number listing) = (λ e. refl, λ e. refl)
-runs-same known (HasPage number listing page) = (λ e. refl, λ e. refl)
+runs-same known (Loads stage) = (λ e. refl, λ e. refl)
 runs-same known (HasCopy number rows) = (λ e. absurd (copy-runs known (least_unread known.happenings) e), λ e. absurd (stands number e))
   where
     stands : (n : ℕ) → LoadStands n ≡ LoadRuns → ⊥
@@ -183,12 +168,7 @@ rows-shown kept at (Some row) turns is stood =
 
 all-held : (held : Held) (happenings : List Happening) → has_copy held ≡ true → phase_all (phase_of held happenings) ≡ rows_after (load_copied held) happenings
 all-held Idle happenings e = absurd (true≢false (sym e))
-all-held Begun happenings e = absurd (true≢false (sym e))
-all-held HasToken happenings e = absurd (true≢false (sym e))
-all-held (HasNumber number) happenings e = absurd (true≢false (sym e))
-all-held (HasRoot number root) happenings e = absurd (true≢false (sym e))
-all-held (Lists number listing) happenings e = absurd (true≢false (sym e))
-all-held (HasPage number listing page) happenings e = absurd (true≢false (sym e))
+all-held (Loads stage) happenings e = absurd (true≢false (sym e))
 all-held (HasCopy number rows) happenings e = known-copied rows happenings
 
 pub copies-by_attempt : (kept : ReplicaState) (rows : List KnownRow) → rows ≡ phase_all kept.known.phase → CopiesByAttempt kept rows

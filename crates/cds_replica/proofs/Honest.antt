@@ -7,14 +7,14 @@ use Rattle.cds_load.specs.declared.exchange.Read.{Read}
 use Rattle.cds_load.specs.declared.exchange.Shown.{Shown}
 use Rattle.cds_commands.specs.Notes.{Note}
 use Rattle.cds_follow.specs.Inbox.{ReplicaTurn, Shows, Accepts, Delivers, arrival, taken_by}
-use Rattle.cds_follow.specs.Follow.{Known, copied, Outcome, Knows, CannotBeRead, Jumps, Tears, known_by, next_ask, with_reply, with_notes, and_turn}
+use Rattle.cds_follow.specs.Follow.{Known, copied, known_by, next_ask, with_reply, with_notes, and_turn}
 use Rattle.cds_commands.specs.Commands.{oldest}
-use Rattle.cds_follow.specs.Given.{moment_after, Asks, Granted, Gets, given_by, asked_at}
+use Rattle.cds_follow.specs.Given.{grants_of, moment_after, Asks, Granted, Gets, given_by, asked_at, length_before_call}
 use Rattle.cds_follow.specs.declared.says.Says.{Says}
 use Rattle.cds_follow.proofs.Honest.{calls-taken, copies-stood}
-use Rattle.cds_follow.specs.Named.{KnowsTheSame, named, named_note}
+use Rattle.cds_follow.specs.Named.{KnowsTheSame, named}
 use Rattle.cds_follow.proofs.Complete.{answers-complete}
-use Rattle.cds_follow.proofs.Named.{names-same}
+use Rattle.cds_follow.proofs.NamedIn.{sent-in, granted-in, given-same}
 use Rattle.cds_replica.specs.Calls.{IsTaken, IsNotice, IsAcceptance, IsAnswer, UnlessNoMemory, UnlessMem}
 use Rattle.cds_replica.specs.Honest.{IsReadThen, IsHeardThen, TakesGiven, HearsGiven, AcceptsGiven, SaysGiven, CompletesGiven}
 use Rattle.cds_replica.specs.Steps.{phase_rows, kept_says}
@@ -25,14 +25,15 @@ use Rattle.cds_replica.specs.declared.note.Taken.{Taken}
 use Rattle.cds_replica.specs.declared.notify_error.NotifyError.{NotifyError}
 use Rattle.cds_replica.specs.declared.notify_error.NotifyError.TheVariants.{Unknown, Full, Jump, Torn, Mem}
 use Rattle.cds_replica.proofs.Keeping.{says-kept, rows-kept}
+use Rattle.cds_load.specs.Outcome.{Outcome, Goes, CannotBeRead, Jumps, Tears}
 
 -- ---- what is taken is not refused
 
-taken-read : (outcome : Outcome) (result : Result Read AnswerError) (fact : Type 0) → IsTaken outcome → IsAnswer outcome result → UnlessMem result fact → IsReadThen result fact
+taken-read : (outcome : Outcome Known) (result : Result Read AnswerError) (fact : Type 0) → IsTaken outcome → IsAnswer outcome result → UnlessMem result fact → IsReadThen result fact
 taken-read outcome (Ok read) fact taken is then = then
-taken-read outcome (Err Unreadable) fact taken is then = let no : Knows taken.0 ≡ CannotBeRead = sym taken.1 ∙ is in cc
-taken-read outcome (Err (AnswerJump expected first)) fact taken is then = let no : Knows taken.0 ≡ Jumps expected first = sym taken.1 ∙ is in cc
-taken-read outcome (Err (AnswerTorn id)) fact taken is then = let no : Knows taken.0 ≡ Tears id = sym taken.1 ∙ is in cc
+taken-read outcome (Err Unreadable) fact taken is then = let no : Goes taken.0 ≡ CannotBeRead = sym taken.1 ∙ is in cc
+taken-read outcome (Err (AnswerJump expected first)) fact taken is then = let no : Goes taken.0 ≡ Jumps expected first = sym taken.1 ∙ is in cc
+taken-read outcome (Err (AnswerTorn id)) fact taken is then = let no : Goes taken.0 ≡ Tears id = sym taken.1 ∙ is in cc
 taken-read outcome (Err AnswerMem) fact taken is then = tt
 
 -- what a call says of each list of turns, at one of them
@@ -47,8 +48,8 @@ takes-given old new shown result answers token names first commands entries k ap
     turns : List ReplicaTurn
     turns = given_by token first commands entries
 
-    same : KnowsTheSame names turns
-    same = names-same names turns apart
+    same : KnowsTheSame names (grants_of commands) turns
+    same = given-same token names first commands entries apart given.2
 
     moment : Moment
     moment = moment_after token first (oldest k commands)
@@ -65,7 +66,7 @@ takes-given old new shown result answers token names first commands entries k ap
         subst (λ (known : Known). IsAnswer (with_reply known known.held shown) result) same.knows all.1 in
         subst (λ (s : Shown). IsReadThen result (StandsFor new (named names (and_turn (Shows s) turns)))) (sym is)
         (taken-read (with_reply (known_by turns) (known_by turns).held shown) result (StandsFor new (named names (and_turn (Shows shown) turns))) taken answer
-        (subst (λ (ts : List ReplicaTurn). UnlessMem result (StandsFor new ts)) (same.goes_on (Shows shown)) all.0))
+        (subst (λ (ts : List ReplicaTurn). UnlessMem result (StandsFor new ts)) (same.goes_on (Shows shown) tt) all.0))
 
 pub hears-given : (old new : ReplicaState) (note : Note) (result : Result Taken NotifyError)
     → ((turns : List ReplicaTurn) → StandsFor old turns →
@@ -73,14 +74,14 @@ pub hears-given : (old new : ReplicaState) (note : Note) (result : Result Taken 
     → HearsGiven old note new result
 hears-given old new note result all token names first commands entries k sent is apart accepted given stood =
     by result
-    (subst (λ (ts : List ReplicaTurn). UnlessNoMemory result (StandsFor new ts)) (ap (λ (n : Note). and_turn (Delivers n) (named names turns)) is ∙ same.goes_on (Delivers sent)) here.0)
+    (subst (λ (ts : List ReplicaTurn). UnlessNoMemory result (StandsFor new ts)) (ap (λ (n : Note). and_turn (Delivers n) (named names turns)) is ∙ same.goes_on (Delivers sent) (sent-in first commands k sent given.1)) here.0)
     here.1
   where
     turns : List ReplicaTurn
     turns = given_by token first commands entries
 
-    same : KnowsTheSame names turns
-    same = names-same names turns apart
+    same : KnowsTheSame names (grants_of commands) turns
+    same = given-same token names first commands entries apart given.2
 
     here : UnlessNoMemory result (StandsFor new (and_turn (Delivers note) (named names turns)))
         × IsNotice (arrival note (named names turns)) (with_notes (taken_by (Delivers note) (named names turns)) (known_by (named names turns))) result
@@ -89,7 +90,7 @@ hears-given old new note result all token names first commands entries k sent is
     taken : IsTaken (with_notes (taken_by (Delivers note) (named names turns)) (known_by (named names turns)))
     taken =
         subst (λ (n : Note). IsTaken (with_notes (taken_by (Delivers n) (named names turns)) (known_by (named names turns)))) (sym is)
-        (subst IsTaken (sym (same.takes (Delivers sent))) (calls-taken token first commands (Gets k sent) entries accepted given))
+        (subst IsTaken (sym (same.takes (Delivers sent) (sent-in first commands k sent given.1))) (calls-taken token first commands (Gets k sent) entries accepted given))
 
     by : (result : Result Taken NotifyError) → UnlessNoMemory result (StandsFor new (named names (and_turn (Delivers sent) turns)))
         → IsNotice (arrival note (named names turns)) (with_notes (taken_by (Delivers note) (named names turns)) (known_by (named names turns))) result
@@ -97,8 +98,8 @@ hears-given old new note result all token names first commands entries k sent is
     by (Ok x) then is = then
     by (Err Unknown) then is = then
     by (Err (Full held)) then is = then
-    by (Err (Jump expected first)) then is = let no : Knows taken.0 ≡ Jumps expected first = sym taken.1 ∙ is.1 in cc
-    by (Err (Torn id)) then is = let no : Knows taken.0 ≡ Tears id = sym taken.1 ∙ is.1 in cc
+    by (Err (Jump expected first)) then is = let no : Goes taken.0 ≡ Jumps expected first = sym taken.1 ∙ is.1 in cc
+    by (Err (Torn id)) then is = let no : Goes taken.0 ≡ Tears id = sym taken.1 ∙ is.1 in cc
     by (Err Mem) then is = tt
 
 pub accepts-given : (old new : ReplicaState) (name : ℕ) (result : Result (Unit {0}) NotifyError)
@@ -107,14 +108,14 @@ pub accepts-given : (old new : ReplicaState) (name : ℕ) (result : Result (Unit
     → AcceptsGiven old name new result
 accepts-given old new name result all token names first commands entries k number is apart accepted given stood =
     by result
-    (subst (λ (ts : List ReplicaTurn). UnlessNoMemory result (StandsFor new ts)) (ap (λ (n : ℕ). and_turn (Accepts n) (named names turns)) is ∙ same.goes_on (Accepts number)) here.0)
+    (subst (λ (ts : List ReplicaTurn). UnlessNoMemory result (StandsFor new ts)) (ap (λ (n : ℕ). and_turn (Accepts n) (named names turns)) is ∙ same.goes_on (Accepts number) (granted-in commands k (length_before_call entries) number given.1.1 given.1.2)) here.0)
     here.1
   where
     turns : List ReplicaTurn
     turns = given_by token first commands entries
 
-    same : KnowsTheSame names turns
-    same = names-same names turns apart
+    same : KnowsTheSame names (grants_of commands) turns
+    same = given-same token names first commands entries apart given.2
 
     here : UnlessNoMemory result (StandsFor new (and_turn (Accepts name) (named names turns)))
         × IsAcceptance (with_notes (taken_by (Accepts name) (named names turns)) (known_by (named names turns))) result
@@ -123,7 +124,7 @@ accepts-given old new name result all token names first commands entries k numbe
     taken : IsTaken (with_notes (taken_by (Accepts name) (named names turns)) (known_by (named names turns)))
     taken =
         subst (λ (n : ℕ). IsTaken (with_notes (taken_by (Accepts n) (named names turns)) (known_by (named names turns)))) (sym is)
-        (subst IsTaken (sym (same.takes (Accepts number))) (calls-taken token first commands (Granted k number) entries accepted given))
+        (subst IsTaken (sym (same.takes (Accepts number) (granted-in commands k (length_before_call entries) number given.1.1 given.1.2))) (calls-taken token first commands (Granted k number) entries accepted given))
 
     by : (result : Result (Unit {0}) NotifyError) → UnlessNoMemory result (StandsFor new (named names (and_turn (Accepts number) turns)))
         → IsAcceptance (with_notes (taken_by (Accepts name) (named names turns)) (known_by (named names turns))) result
@@ -131,8 +132,8 @@ accepts-given old new name result all token names first commands entries k numbe
     by (Ok x) then is = then
     by (Err Unknown) then is = then
     by (Err (Full held)) then is = then
-    by (Err (Jump expected first)) then is = let no : Knows taken.0 ≡ Jumps expected first = sym taken.1 ∙ is in cc
-    by (Err (Torn id)) then is = let no : Knows taken.0 ≡ Tears id = sym taken.1 ∙ is in cc
+    by (Err (Jump expected first)) then is = let no : Goes taken.0 ≡ Jumps expected first = sym taken.1 ∙ is in cc
+    by (Err (Torn id)) then is = let no : Goes taken.0 ≡ Tears id = sym taken.1 ∙ is in cc
     by (Err Mem) then is = tt
 
 -- ---- where it stands
@@ -140,7 +141,7 @@ accepts-given old new name result all token names first commands entries k numbe
 pub says-given : (kept : ReplicaState) (answer : Says) → answer ≡ kept_says kept → SaysGiven kept answer
 says-given kept answer is token names first commands newest older number apart accepted given stood stands =
     let turns = given_by token first commands (newest ∷ older) in
-    let same = names-same names turns apart in
+    let same = given-same token names first commands (newest ∷ older) apart given in
     let copy = copies-stood token first commands newest older number accepted given
     (sym same.says_so ∙ sym (says-kept (named names turns)) ∙ sym (ap kept_says stood) ∙ sym is ∙ stands) in
     record {
@@ -153,6 +154,6 @@ says-given kept answer is token names first commands newest older number apart a
 pub completes-given : (kept : ReplicaState) (answer : Says) → answer ≡ kept_says kept → CompletesGiven kept answer
 completes-given kept answer is token names first commands newest older name now apart accepted given stood begun named-one alive received released nothing =
     let turns = given_by token first commands (newest ∷ older) in
-    let same = names-same names turns apart in
+    let same = given-same token names first commands (newest ∷ older) apart given in
     is ∙ ap kept_says stood ∙ says-kept (named names turns) ∙ same.says_so
     ∙ answers-complete token first commands newest older name now accepted given begun named-one alive received released nothing

@@ -5,63 +5,64 @@ use Rattle.std.specs.Option.{option_map}
 use Rattle.std.specs.List.{filter_map}
 use Rattle.cds_object.specs.Object.{ObjectRow}
 use Rattle.cds_object.specs.declared.event.Event.{Event}
-use Rattle.cds_load.specs.Stages.{Held, Idle, Begun, HasToken, HasNumber, HasRoot, Lists, HasPage, HasCopy, Taken, Holds, Unreadable as NotReadable, Torn as CannotBe, taken}
+use Rattle.cds_load.specs.Stages.{Held, Idle, HasCopy, taken, Loads}
 use Rattle.cds_load.specs.declared.exchange.Ask.TheVariants.{Metadata}
 use Rattle.cds_load.specs.declared.exchange.Shown.{Shown}
 use Rattle.cds_load.specs.declared.exchange.Shown.TheVariants.{Text, Number, Page, Fault}
 use Rattle.cds_commands.specs.Notes.{Note, changes_above}
 use Rattle.cds_follow.specs.Copy.{Happening, Changes, Reads, rows_after, shown_row, known_of, least_unread}
 use Rattle.cds_follow.specs.Inbox.{ReplicaTurn, missing}
-use Rattle.cds_follow.specs.Follow.{Known, position, Outcome, Knows, CannotBeRead, Jumps, Tears, first_torn, judged, counted_from, with_changes, load_begun, new_changes, greatest_of, is_drop, heard_of, with_notes, loaded, is_of, row_read, object_read, copy_read, with_reply, known_by, next_ask, ask_of, copy_says, says_without_gap, says_of, says, rows_held, copied}
+use Rattle.cds_follow.specs.Follow.{Known, position, first_torn, judged, counted_from, with_changes, load_begun, new_changes, greatest_of, is_drop, heard_of, with_notes, loaded, is_of, row_read, object_read, copy_read, with_reply, known_by, next_ask, ask_of, copy_says, says_without_gap, says_of, says, rows_held, copied}
 use Rattle.cds_replica.specs.CopyState.{KeptCopy, copy_of, IsSound, AreAbove}
-use Rattle.cds_replica.specs.CopySteps.{Count, count_from, count_of, copy_read as copy_with, version_of}
+use Rattle.cds_replica.specs.CopySteps.{count_from, count_of, copy_read as copy_with, version_of}
 use Rattle.cds_replica.specs.Ended.{end_count}
-use Rattle.cds_replica.specs.State.{KeptPhase, Loads, Copies, phase_of, KeptKnown, kept_known, kept_of}
-use Rattle.cds_replica.specs.Steps.{Becomes, Leads, Unreadable, Leap, Tear, with_what, kept_outcome, of_count, hears_changes, with_new_changes, load_takes, with_phase, row_of_read, object_of_read, copy_takes, answers, phase_ask, copy_tells, phase_tells, tells_or_gap, kept_says, phase_rows, phase_all}
+use Rattle.cds_replica.specs.State.{KeptPhase, Copies, phase_of, KeptKnown, kept_known, kept_of, NoCopy}
+use Rattle.cds_replica.specs.Steps.{kept_outcome, hears_changes, with_new_changes, load_takes, with_phase, row_of_read, object_of_read, copy_takes, answers, phase_ask, copy_tells, phase_tells, tells_or_gap, kept_says, phase_rows, phase_all}
 use Rattle.cds_replica.specs.NewChanges.{tells, nothing_told}
 use Rattle.cds_replica.proofs.Inboxed.{missing-kept}
 use Rattle.cds_replica.proofs.KeptCounts.{count-kept, known-copied, can-same, read-copied}
 use Rattle.cds_replica.proofs.KeptTurns.{SoundHeld, SoundKnown, SoundTaken, taken-sound, above-filter, new-above, turns-sound}
 use Rattle.cds_replica.proofs.KeptUnread.{least-kept}
 use Rattle.cds_object.specs.Events.{update_of}
+use Rattle.cds_load.specs.Outcome.{Outcome, Goes, CannotBeRead, Jumps, Tears, outcome_map}
 
 -- ---- changes are counted
 
-with-with : {X Y Z : Type 0} (f : X → Y) (g : Y → Z) (b : Becomes X) → with_what g (with_what f b) ≡ with_what (λ x. g (f x)) b
-with-with f g (Leads x) = refl
-with-with f g Unreadable = refl
-with-with f g (Leap expected first) = refl
-with-with f g (Tear id) = refl
+with-with : {X Y Z : Type 0} (f : X → Y) (g : Y → Z) (b : Outcome X) → outcome_map g (outcome_map f b) ≡ outcome_map (λ x. g (f x)) b
+with-with f g (Goes x) = refl
+with-with f g CannotBeRead = refl
+with-with f g (Jumps expected first) = refl
+with-with f g (Tears id) = refl
 
 -- what is known with a copy that counted changes
 abbrev with-copy : Known → ℕ → KeptCopy → KeptKnown
 with-copy known number copy = record (kept_known known) { phase = Copies number copy }
 
 counted-known : (rows : List ObjectRow) (number at : ℕ) (known : Known) (events : List Event) → known.held ≡ HasCopy number rows
-    → kept_outcome (counted_from rows known at events) ≡ with_what (with-copy known number) (of_count (count_of rows (counted_from rows known at events)))
-counted-known rows number at known [] e = λ i. Leads (record (kept_known known) { phase = phase_of (e i) known.happenings })
+    → kept_outcome (counted_from rows known at events) ≡ outcome_map (with-copy known number) (count_of rows (counted_from rows known at events))
+counted-known rows number at known [] e = λ i. Goes (record (kept_known known) { phase = phase_of (e i) known.happenings })
 counted-known rows number at known (event ∷ events) e =
     by (nat_eq (update_of event) (at + 1)) (first_torn (rows_after rows known.happenings) (event ∷ events))
   where
     by : (b : Bool) (o : Option ℕ) → kept_outcome (cond b (judged known (event ∷ events) o) (Jumps (at + 1) (update_of event)))
-        ≡ with_what (with-copy known number) (of_count (count_of rows (cond b (judged known (event ∷ events) o) (Jumps (at + 1) (update_of event)))))
+        ≡ outcome_map (with-copy known number) (count_of rows (cond b (judged known (event ∷ events) o) (Jumps (at + 1) (update_of event))))
     by true (Some id) = refl
-    by true None = λ i. Leads (record (kept_known known) { phase = phase_of (e i) (reverse (map Changes (event ∷ events)) ++ known.happenings) })
+    by true None = λ i. Goes (record (kept_known known) { phase = phase_of (e i) (reverse (map Changes (event ∷ events)) ++ known.happenings) })
     by false o = refl
 
 count-known : (rows : List ObjectRow) (number at : ℕ) (known : Known) (events : List Event) → known.held ≡ HasCopy number rows → IsSound rows known.happenings → AreAbove at events
-    → kept_outcome (counted_from rows known at events) ≡ with_what (with-copy known number) (of_count (count_from (copy_of rows known.happenings) at events))
+    → kept_outcome (counted_from rows known at events) ≡ outcome_map (with-copy known number) (count_from (copy_of rows known.happenings) at events)
 count-known rows number at known events e sound above =
-    counted-known rows number at known events e ∙ ap (λ (c : Count). with_what (with-copy known number) (of_count c)) (count-kept rows known at events sound above)
+    counted-known rows number at known events e ∙ ap (outcome_map (with-copy known number)) (count-kept rows known at events sound above)
 
 -- ---- notes are taken
 
 with-heard : List Note → KeptKnown → KeptKnown
 with-heard notes kept = record kept { last_note = greatest_of kept.last_note notes }
 
-heard-of : (notes : List Note) (outcome : Outcome) → kept_outcome (heard_of notes outcome) ≡ with_what (with-heard notes) (kept_outcome outcome)
+heard-of : (notes : List Note) (outcome : Outcome Known) → kept_outcome (heard_of notes outcome) ≡ outcome_map (with-heard notes) (kept_outcome outcome)
 unfolding with-heard
-heard-of notes (Knows now) = refl
+heard-of notes (Goes now) = refl
 heard-of notes CannotBeRead = refl
 heard-of notes (Jumps expected first) = refl
 heard-of notes (Tears id) = refl
@@ -69,28 +70,23 @@ heard-of notes (Tears id) = refl
 -- what notes tell of which the first does not drop the copy
 stays-kept : (held : Held) (known : Known) (notes : List Note) → known.held ≡ held → SoundHeld held known.happenings
     → kept_outcome (heard_of notes (with_changes held known (position known) (new_changes (position known) notes)))
-    ≡ with_what (λ (now : KeptPhase × List Event). record { phase = now.0; base = known.base; last_note = greatest_of known.last_note notes; changes = now.1 })
+    ≡ outcome_map (λ (now : KeptPhase × List Event). record { phase = now.0; base = known.base; last_note = greatest_of known.last_note notes; changes = now.1 })
     (hears_changes (phase_of held known.happenings) (position known) known.kept (new_changes (position known) notes))
 unfolding with-heard
-stays-kept Idle known notes e sound = λ i. Leads (record { phase = phase_of (e i) known.happenings; base = known.base; last_note = greatest_of known.last_note notes; changes = known.kept })
-stays-kept Begun known notes e sound = λ i. Leads (record { phase = phase_of (e i) known.happenings; base = known.base; last_note = greatest_of known.last_note notes; changes = known.kept ++ new_changes (position known) notes })
-stays-kept HasToken known notes e sound = λ i. Leads (record { phase = phase_of (e i) known.happenings; base = known.base; last_note = greatest_of known.last_note notes; changes = known.kept ++ new_changes (position known) notes })
-stays-kept (HasNumber number) known notes e sound = λ i. Leads (record { phase = phase_of (e i) known.happenings; base = known.base; last_note = greatest_of known.last_note notes; changes = known.kept ++ new_changes (position known) notes })
-stays-kept (HasRoot number root) known notes e sound = λ i. Leads (record { phase = phase_of (e i) known.happenings; base = known.base; last_note = greatest_of known.last_note notes; changes = known.kept ++ new_changes (position known) notes })
-stays-kept (Lists number listing) known notes e sound = λ i. Leads (record { phase = phase_of (e i) known.happenings; base = known.base; last_note = greatest_of known.last_note notes; changes = known.kept ++ new_changes (position known) notes })
-stays-kept (HasPage number listing page) known notes e sound = λ i. Leads (record { phase = phase_of (e i) known.happenings; base = known.base; last_note = greatest_of known.last_note notes; changes = known.kept ++ new_changes (position known) notes })
+stays-kept Idle known notes e sound = λ i. Goes (record { phase = phase_of (e i) known.happenings; base = known.base; last_note = greatest_of known.last_note notes; changes = known.kept })
+stays-kept (Loads stage) known notes e sound = λ i. Goes (record { phase = phase_of (e i) known.happenings; base = known.base; last_note = greatest_of known.last_note notes; changes = known.kept ++ new_changes (position known) notes })
 stays-kept (HasCopy number rows) known notes e sound =
     heard-of notes (counted_from rows known (position known) (new_changes (position known) notes))
-    ∙ ap (with_what (with-heard notes)) (count-known rows number (position known) known (new_changes (position known) notes) e sound (new-above (position known) notes))
-    ∙ by (of_count (count_from (copy_of rows known.happenings) (position known) (new_changes (position known) notes)))
+    ∙ ap (outcome_map (with-heard notes)) (count-known rows number (position known) known (new_changes (position known) notes) e sound (new-above (position known) notes))
+    ∙ by (count_from (copy_of rows known.happenings) (position known) (new_changes (position known) notes))
   where
-    by : (b : Becomes KeptCopy) → with_what (with-heard notes) (with_what (with-copy known number) b)
-        ≡ with_what (λ (now : KeptPhase × List Event). record { phase = now.0; base = known.base; last_note = greatest_of known.last_note notes; changes = now.1 })
-        (with_what (λ (now : KeptCopy). (Copies number now, known.kept)) b)
-    by (Leads copy) = refl
-    by Unreadable = refl
-    by (Leap expected first) = refl
-    by (Tear id) = refl
+    by : (b : Outcome KeptCopy) → outcome_map (with-heard notes) (outcome_map (with-copy known number) b)
+        ≡ outcome_map (λ (now : KeptPhase × List Event). record { phase = now.0; base = known.base; last_note = greatest_of known.last_note notes; changes = now.1 })
+        (outcome_map (λ (now : KeptCopy). (Copies number now, known.kept)) b)
+    by (Goes copy) = refl
+    by CannotBeRead = refl
+    by (Jumps expected first) = refl
+    by (Tears id) = refl
 
 -- what becomes of notes that are taken, in what is kept
 pub notes-kept : (notes : List Note) (known : Known) → SoundKnown known
@@ -106,62 +102,52 @@ notes-kept notes known sound = by (is_drop (position known) notes)
 -- ---- replies are taken
 
 -- the same where nothing else is known than the load and its end
-loaded-kept : (held : Held) (known : Known) (becomes : Taken) → known.held ≡ held → SoundTaken becomes
-    → kept_outcome (loaded known becomes) ≡ with_what (with_phase (kept_known known)) (load_takes known.kept becomes)
-loaded-kept held known NotReadable e sound = refl
-loaded-kept held known (CannotBe id) e sound = refl
-loaded-kept held known (Holds Idle) e sound = refl
-loaded-kept held known (Holds Begun) e sound = refl
-loaded-kept held known (Holds HasToken) e sound = refl
-loaded-kept held known (Holds (HasNumber number)) e sound = refl
-loaded-kept held known (Holds (HasRoot number root)) e sound = refl
-loaded-kept held known (Holds (Lists number listing)) e sound = refl
-loaded-kept held known (Holds (HasPage number listing page)) e sound = refl
-loaded-kept held known (Holds (HasCopy number rows)) e sound =
+loaded-kept : (held : Held) (known : Known) (becomes : Outcome Held) → known.held ≡ held → SoundTaken becomes
+    → kept_outcome (loaded known becomes) ≡ outcome_map (with_phase (kept_known known)) (load_takes known.kept becomes)
+loaded-kept held known CannotBeRead e sound = refl
+loaded-kept held known (Jumps expected first) e sound = refl
+loaded-kept held known (Tears id) e sound = refl
+loaded-kept held known (Goes Idle) e sound = refl
+loaded-kept held known (Goes (Loads stage)) e sound = refl
+loaded-kept held known (Goes (HasCopy number rows)) e sound =
     count-known rows number number ended (changes_above number known.kept) refl sound (above-filter number known.kept)
-    ∙ sym (with-with (Copies number) (with_phase (kept_known known)) (of_count (end_count rows number known.kept)))
+    ∙ sym (with-with (Copies number) (with_phase (kept_known known)) (end_count rows number known.kept))
   where
     ended : Known
     ended = record { held = HasCopy number rows; base = number; last_note = known.last_note; kept = []; happenings = [] }
 
 row-kept : (rows : List ObjectRow) (number id : ℕ) (known : Known) (shown : List ObjectRow) → known.held ≡ HasCopy number rows → IsSound rows known.happenings
-    → kept_outcome (row_read known rows id shown) ≡ with_what (with-copy known number) (row_of_read (copy_of rows known.happenings) id shown)
+    → kept_outcome (row_read known rows id shown) ≡ outcome_map (with-copy known number) (row_of_read (copy_of rows known.happenings) id shown)
 row-kept rows number id known [] e sound = refl
 row-kept rows number id known (row ∷ next ∷ others) e sound = refl
 row-kept rows number id known (row ∷ []) e sound =
     by (is_of id row (known_of id (rows_after rows known.happenings)))
-    ∙ ap (λ (b : Bool). with_what (with-copy known number) (cond b (Leads (copy_with (copy_of rows known.happenings) id (version_of row))) (Tear id)))
+    ∙ ap (λ (b : Bool). outcome_map (with-copy known number) (cond b (Goes (copy_with (copy_of rows known.happenings) id (version_of row))) (Tears id)))
     (sym (can-same rows known.happenings id row))
   where
-    by : (b : Bool) → kept_outcome (cond b (Knows (record known { happenings = Reads id (version_of row) ∷ known.happenings })) (Tears id))
-        ≡ with_what (with-copy known number) (cond b (Leads (copy_with (copy_of rows known.happenings) id (version_of row))) (Tear id))
+    by : (b : Bool) → kept_outcome (cond b (Goes (record known { happenings = Reads id (version_of row) ∷ known.happenings })) (Tears id))
+        ≡ outcome_map (with-copy known number) (cond b (Goes (copy_with (copy_of rows known.happenings) id (version_of row))) (Tears id))
     by true =
-        (λ i. Leads (record (kept_known known) { phase = phase_of (e i) (Reads id (version_of row) ∷ known.happenings) }))
-        ∙ ap (λ (copy : KeptCopy). Leads (with-copy known number copy)) (sym (read-copied rows known.happenings id row sound))
+        (λ i. Goes (record (kept_known known) { phase = phase_of (e i) (Reads id (version_of row) ∷ known.happenings) }))
+        ∙ ap (λ (copy : KeptCopy). Goes (with-copy known number copy)) (sym (read-copied rows known.happenings id row sound))
     by false = refl
 
 -- what becomes of a reply to the next ask, in what is kept
 pub reply-kept : (held : Held) (known : Known) (shown : Shown) → known.held ≡ held → SoundHeld held known.happenings
     → kept_outcome (with_reply known held shown) ≡ answers (kept_known known) (phase_of held known.happenings) shown
 reply-kept Idle known shown e sound = refl
-reply-kept Begun known shown e sound = loaded-kept Begun known (taken Begun shown) e (taken-sound Begun known.happenings shown sound)
-reply-kept HasToken known shown e sound = loaded-kept HasToken known (taken HasToken shown) e (taken-sound HasToken known.happenings shown sound)
-reply-kept (HasNumber number) known shown e sound = loaded-kept (HasNumber number) known (taken (HasNumber number) shown) e (taken-sound (HasNumber number) known.happenings shown sound)
-reply-kept (HasRoot number root) known shown e sound = loaded-kept (HasRoot number root) known (taken (HasRoot number root) shown) e (taken-sound (HasRoot number root) known.happenings shown sound)
-reply-kept (Lists number listing) known shown e sound = loaded-kept (Lists number listing) known (taken (Lists number listing) shown) e (taken-sound (Lists number listing) known.happenings shown sound)
-reply-kept (HasPage number listing page) known shown e sound =
-    loaded-kept (HasPage number listing page) known (taken (HasPage number listing page) shown) e (taken-sound (HasPage number listing page) known.happenings shown sound)
+reply-kept (Loads stage) known shown e sound = loaded-kept (Loads stage) known (taken (Loads stage) shown) e (taken-sound (Loads stage) known.happenings shown sound)
 reply-kept (HasCopy number rows) known shown e sound =
     by (least_unread known.happenings) shown
-    ∙ ap (λ (o : Option ℕ). with_what (with-copy known number) (copy_takes (copy_of rows known.happenings) o shown)) (least-kept rows known.happenings sound)
+    ∙ ap (λ (o : Option ℕ). outcome_map (with-copy known number) (copy_takes (copy_of rows known.happenings) o shown)) (least-kept rows known.happenings sound)
   where
-    object : (id : ℕ) (shown : Shown) → kept_outcome (object_read known rows id shown) ≡ with_what (with-copy known number) (object_of_read (copy_of rows known.happenings) id shown)
+    object : (id : ℕ) (shown : Shown) → kept_outcome (object_read known rows id shown) ≡ outcome_map (with-copy known number) (object_of_read (copy_of rows known.happenings) id shown)
     object id (Text token) = refl
     object id (Number n) = refl
     object id (Page shown total update) = row-kept rows number id known shown e sound
-    object id (Fault code) = λ i. Leads (record (kept_known known) { phase = phase_of (e i) known.happenings })
+    object id (Fault code) = λ i. Goes (record (kept_known known) { phase = phase_of (e i) known.happenings })
 
-    by : (o : Option ℕ) (shown : Shown) → kept_outcome (copy_read known rows o shown) ≡ with_what (with-copy known number) (copy_takes (copy_of rows known.happenings) o shown)
+    by : (o : Option ℕ) (shown : Shown) → kept_outcome (copy_read known rows o shown) ≡ outcome_map (with-copy known number) (copy_takes (copy_of rows known.happenings) o shown)
     by None shown = refl
     by (Some id) shown = object id shown
 
@@ -169,12 +155,7 @@ reply-kept (HasCopy number rows) known shown e sound =
 
 asks : (held : Held) (known : Known) → SoundHeld held known.happenings → phase_ask (phase_of held known.happenings) ≡ ask_of known held
 asks Idle known sound = refl
-asks Begun known sound = refl
-asks HasToken known sound = refl
-asks (HasNumber number) known sound = refl
-asks (HasRoot number root) known sound = refl
-asks (Lists number listing) known sound = refl
-asks (HasPage number listing page) known sound = refl
+asks (Loads stage) known sound = refl
 asks (HasCopy number rows) known sound = ap (option_map (λ (id : ℕ). Metadata id)) (sym (least-kept rows known.happenings sound))
 
 pub ask-kept : (turns : List ReplicaTurn) → phase_ask (kept_of turns).known.phase ≡ next_ask (known_by turns)
@@ -182,12 +163,7 @@ ask-kept turns = asks (known_by turns).held (known_by turns) (turns-sound turns)
 
 tells-kept : (held : Held) (known : Known) → SoundHeld held known.happenings → phase_tells (kept_known known) (phase_of held known.happenings) ≡ says_without_gap known held
 tells-kept Idle known sound = refl
-tells-kept Begun known sound = refl
-tells-kept HasToken known sound = refl
-tells-kept (HasNumber number) known sound = refl
-tells-kept (HasRoot number root) known sound = refl
-tells-kept (Lists number listing) known sound = refl
-tells-kept (HasPage number listing page) known sound = refl
+tells-kept (Loads stage) known sound = refl
 tells-kept (HasCopy number rows) known sound =
     ap (copy_tells (position known) (copy_of rows known.happenings)) (sym (least-kept rows known.happenings sound)) ∙ by (least_unread known.happenings)
   where
@@ -205,19 +181,14 @@ says-kept turns =
 
 rows-held : (held : Held) (happenings : List Happening) → phase_rows (phase_of held happenings) ≡ rows_held held happenings
 rows-held Idle happenings = refl
-rows-held Begun happenings = refl
-rows-held HasToken happenings = refl
-rows-held (HasNumber number) happenings = refl
-rows-held (HasRoot number root) happenings = refl
-rows-held (Lists number listing) happenings = refl
-rows-held (HasPage number listing page) happenings = refl
+rows-held (Loads stage) happenings = refl
 rows-held (HasCopy number rows) happenings = ap (filter_map shown_row) (known-copied rows happenings)
 
 pub rows-kept : (turns : List ReplicaTurn) → phase_rows (kept_of turns).known.phase ≡ copied (known_by turns)
 rows-kept turns = rows-held (known_by turns).held (known_by turns).happenings
 
 all-rows : (phase : KeptPhase) → filter_map shown_row (phase_all phase) ≡ phase_rows phase
-all-rows (Loads held) = refl
+all-rows (NoCopy held) = refl
 all-rows (Copies number copy) = refl
 
 pub all-kept : (turns : List ReplicaTurn) → filter_map shown_row (phase_all (kept_of turns).known.phase) ≡ copied (known_by turns)

@@ -6,14 +6,15 @@ use Rattle.cds_object.specs.declared.event.Event.{Event}
 use Rattle.cds_object.specs.declared.event.Event.TheVariants.{ObjAdd, ObjMod, ObjDel, StDone}
 use Rattle.cds_catalog.proofs.StepsFind.{none≢some}
 use Rattle.cds_follow.specs.Copy.{KnownRow, known_of, knows, knows_container, cannot_be, changed, Happening, Changes, Reads, rows_after, read_up_to}
-use Rattle.cds_follow.specs.Follow.{Known, Knows, Jumps, first_torn, judged, counted_from, is_of}
+use Rattle.cds_follow.specs.Follow.{Known, first_torn, judged, counted_from, is_of}
 use Rattle.cds_follow.specs.ServerLaws.{befalling}
 use Rattle.cds_follow.proofs.Copies.{read-up-to}
 use Rattle.cds_replica.specs.CopyState.{KeptRow, IsSound, AreAbove, kept_row, copy_of, bare_rows}
-use Rattle.cds_replica.specs.CopySteps.{rows_changed_by, cannot_come, first_cannot, Counts, Leaps, judged_count, count_from, count_of, version_of, copy_read, can_be_of}
+use Rattle.cds_replica.specs.CopySteps.{rows_changed_by, cannot_come, first_cannot, judged_count, count_from, count_of, version_of, copy_read, can_be_of}
 use Rattle.cds_replica.proofs.KeptIds.{root-stays, root-stands, distinct-after}
 use Rattle.cds_replica.proofs.KeptSteps.{rows-of, change-kept, read-kept}
 use Rattle.cds_object.specs.Events.{update_of, object_of}
+use Rattle.cds_load.specs.Outcome.{Goes, Jumps}
 
 -- ---- several changes
 
@@ -93,10 +94,10 @@ count-kept rows known at (event ∷ events) sound above = by (nat_eq (update_of 
     on (Some id) e = refl
     on None e =
         let rest = changes-kept at rows (event ∷ events) known.happenings sound above e in
-        λ i. Counts (record { rows = rest.1 i; read_up_to = read-up-to (event ∷ events) known.happenings i })
+        λ i. Goes (record { rows = rest.1 i; read_up_to = read-up-to (event ∷ events) known.happenings i })
 
     by : (b : Bool) → count_of rows (cond b (judged known (event ∷ events) (first_torn (rows_after rows known.happenings) (event ∷ events))) (Jumps (at + 1) (update_of event)))
-        ≡ cond b (judged_count (copy_of rows known.happenings) (event ∷ events) (first_cannot (bare_rows (copy_of rows known.happenings)) (event ∷ events))) (Leaps (at + 1) (update_of event))
+        ≡ cond b (judged_count (copy_of rows known.happenings) (event ∷ events) (first_cannot (bare_rows (copy_of rows known.happenings)) (event ∷ events))) (Jumps (at + 1) (update_of event))
     by true =
         on (first_torn (rows_after rows known.happenings) (event ∷ events)) refl
         ∙ ap (judged_count (copy_of rows known.happenings) (event ∷ events)) (sym (cannot-same rows known.happenings (event ∷ events) sound))
@@ -104,17 +105,17 @@ count-kept rows known at (event ∷ events) sound above = by (nat_eq (update_of 
 
 -- and what befell it stays sound
 pub count-sound : (rows : List ObjectRow) (known now : Known) (at : ℕ) (events : List Event) → IsSound rows known.happenings → AreAbove at events
-    → counted_from rows known at events ≡ Knows now → IsSound rows now.happenings
+    → counted_from rows known at events ≡ Goes now → IsSound rows now.happenings
 count-sound rows known now at [] sound above e = let same : known ≡ now = cc in subst (λ (k : Known). IsSound rows k.happenings) same sound
 count-sound rows known now at (event ∷ events) sound above e = by (nat_eq (update_of event) (at + 1)) e
   where
-    on : (o : Option ℕ) → first_torn (rows_after rows known.happenings) (event ∷ events) ≡ o → judged known (event ∷ events) o ≡ Knows now → IsSound rows now.happenings
+    on : (o : Option ℕ) → first_torn (rows_after rows known.happenings) (event ∷ events) ≡ o → judged known (event ∷ events) o ≡ Goes now → IsSound rows now.happenings
     on (Some id) k f = let no : ⊥ = cc in absurd no
     on None k f =
         let same : record known { happenings = befalling (event ∷ events) ++ known.happenings } ≡ now = cc in
         subst (λ (k : Known). IsSound rows k.happenings) same (changes-kept at rows (event ∷ events) known.happenings sound above k).0
 
-    by : (b : Bool) → cond b (judged known (event ∷ events) (first_torn (rows_after rows known.happenings) (event ∷ events))) (Jumps (at + 1) (update_of event)) ≡ Knows now
+    by : (b : Bool) → cond b (judged known (event ∷ events) (first_torn (rows_after rows known.happenings) (event ∷ events))) (Jumps (at + 1) (update_of event)) ≡ Goes now
         → IsSound rows now.happenings
     by true f = on (first_torn (rows_after rows known.happenings) (event ∷ events)) refl f
     by false f = let no : ⊥ = cc in absurd no

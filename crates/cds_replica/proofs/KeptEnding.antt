@@ -9,10 +9,10 @@ use Rattle.std.proofs.lemmas.List.Elements.{filter_map-append}
 use Rattle.cds_object.specs.Object.{ObjectRow}
 use Rattle.cds_object.specs.declared.row.Trackers.{Trackers}
 use Rattle.cds_object.specs.declared.event.Event.{Event}
-use Rattle.cds_load.specs.Stages.{Lists, HasCopy, Waiting, Listing as Progress, put_by, puts_by, put_rows, put_containers, waiting_of, others_waiting, listed}
+use Rattle.cds_load.specs.Stages.{Lists, HasCopy, Waiting, Listing as Progress, put_by, puts_by, put_rows, put_containers, waiting_of, others_waiting, listed, Loads}
 use Rattle.cds_commands.specs.Notes.{changes_above}
 use Rattle.cds_replica.specs.CopyState.{KeptRow, KeptCopy, copy_of, bare_rows}
-use Rattle.cds_replica.specs.CopySteps.{loaded_row, rows_changed_by, AddsNoRoot, first_cannot, Count, Counts, Leaps, Tears, judged_count, count_from, leap_from}
+use Rattle.cds_replica.specs.CopySteps.{loaded_row, rows_changed_by, AddsNoRoot, first_cannot, judged_count, count_from, leap_from}
 use Rattle.cds_replica.specs.Outlines.{shown_outline, outlines_of, outline_id, outlines_cannot}
 use Rattle.cds_replica.specs.Ended.{end_count, whole_rows, tracks, is_end, IsRefusal}
 use Rattle.cds_replica.specs.declared.outline.Outline.{Outline}
@@ -22,6 +22,7 @@ use Rattle.cds_replica.proofs.Placing.{puts_by-append}
 use Rattle.cds_replica.proofs.KeptOutlines.{outlined-cannot}
 use Rattle.cds_replica.proofs.KeptLoops.{count-torn, count-counts, no-root}
 use Rattle.cds_object.specs.Events.{update_of}
+use Rattle.cds_load.specs.Outcome.{Outcome, Goes, Jumps, Tears}
 
 -- ---- rows that a load has read
 
@@ -63,7 +64,7 @@ length-outlines (row ∷ rows) = let rest = length-outlines rows in omega (arith
 -- ---- what becomes of the changes
 
 module _ (rows : List ObjectRow) (number : ℕ) (kept changes : List Event) (is : changes ≡ changes_above number kept) where
-  whole : (becomes : Count) → count_from (copy_of rows []) number changes ≡ becomes → end_count rows number kept ≡ becomes
+  whole : (becomes : Outcome KeptCopy) → count_from (copy_of rows []) number changes ≡ becomes → end_count rows number kept ≡ becomes
   whole becomes e = ap (count_from (copy_of rows []) number) (sym is) ∙ e
 
   cannot : (outlines : List Outline) → outlines ≡ map shown_outline rows → outlines_cannot outlines changes ≡ first_cannot (bare_rows (copy_of rows [])) changes
@@ -71,11 +72,11 @@ module _ (rows : List ObjectRow) (number : ℕ) (kept changes : List Event) (is 
       ap (λ (l : List Outline). outlines_cannot l changes) (e ∙ sym (outlines-loaded rows)) ∙ outlined-cannot (copy_of rows []).rows changes
 
   pub end-counts : (outlines : List Outline) → outlines ≡ map shown_outline rows → leap_from number changes ≡ None → outlines_cannot outlines changes ≡ None
-      → end_count rows number kept ≡ Counts (record { rows = rows_changed_by (map loaded_row rows) changes; read_up_to = 0 })
+      → end_count rows number kept ≡ Goes (record { rows = rows_changed_by (map loaded_row rows) changes; read_up_to = 0 })
   end-counts outlines e leap none =
-      whole (Counts (record { rows = rows_changed_by (copy_of rows []).rows changes; read_up_to = 0 }))
+      whole (Goes (record { rows = rows_changed_by (copy_of rows []).rows changes; read_up_to = 0 }))
       (count-counts (copy_of rows []) number changes leap (sym (cannot outlines e) ∙ none))
-      ∙ ap (λ (l : List KeptRow). Counts (record { rows = rows_changed_by l changes; read_up_to = 0 })) (sym (loaded-copy rows))
+      ∙ ap (λ (l : List KeptRow). Goes (record { rows = rows_changed_by l changes; read_up_to = 0 })) (sym (loaded-copy rows))
 
   pub end-torn : (outlines : List Outline) (id : ℕ) → outlines ≡ map shown_outline rows → leap_from number changes ≡ None → outlines_cannot outlines changes ≡ Some id
       → end_count rows number kept ≡ Tears id
@@ -87,9 +88,9 @@ module _ (rows : List ObjectRow) (number : ℕ) (kept changes : List Event) (is 
   pub end-leap : (refusal : CountError) → leap_from number changes ≡ Some refusal → IsRefusal (end_count rows number kept) refusal
   end-leap refusal e = subst (λ (l : List Event). IsRefusal (count_from (copy_of rows []) number l) refusal) is (by changes e)
     where
-      on : (copy : KeptCopy) (n first : ℕ) (b : Bool) (becomes : Count) → cond b None (Some (Jump n first)) ≡ Some refusal → IsRefusal (cond b becomes (Leaps n first)) refusal
+      on : (copy : KeptCopy) (n first : ℕ) (b : Bool) (becomes : Outcome KeptCopy) → cond b None (Some (Jump n first)) ≡ Some refusal → IsRefusal (cond b becomes (Jumps n first)) refusal
       on copy n first true becomes f = let no : ⊥ = cc in absurd no
-      on copy n first false becomes f = let same : Jump n first ≡ refusal = cc in subst (IsRefusal (Leaps n first)) same refl
+      on copy n first false becomes f = let same : Jump n first ≡ refusal = cc in subst (IsRefusal (Jumps n first)) same refl
 
       by : (events : List Event) → leap_from number events ≡ Some refusal → IsRefusal (count_from (copy_of rows []) number events) refusal
       by [] f = let no : ⊥ = cc in absurd no
@@ -163,7 +164,7 @@ waiting-nil listing page =
     ∙ and-turn (not (list_any tracks listing.part)) (not (list_any tracks page)) (nat_le (length listing.waiting) 1)
 
 listed-by : (number : ℕ) (rows : List ObjectRow) (waiting : List Waiting)
-    → listed number rows waiting ≡ cond (is_nil waiting) (HasCopy number rows) (Lists number (record { rows = rows; waiting = waiting; part = [] }))
+    → listed number rows waiting ≡ cond (is_nil waiting) (HasCopy number rows) (Loads (Lists number (record { rows = rows; waiting = waiting; part = [] })))
 listed-by number rows [] = refl
 listed-by number rows (w ∷ ws) = refl
 
@@ -171,8 +172,8 @@ listed-by number rows (w ∷ ws) = refl
 pub ends-listed : (number : ℕ) (listing : Progress) (page : List ObjectRow)
     → listed number (whole_rows listing page) (put_containers (listing.part ++ page) (others_waiting listing))
     ≡ cond (is_end listing page) (HasCopy number (whole_rows listing page))
-    (Lists number (record { rows = whole_rows listing page; waiting = put_containers (listing.part ++ page) (others_waiting listing); part = [] }))
+    (Loads (Lists number (record { rows = whole_rows listing page; waiting = put_containers (listing.part ++ page) (others_waiting listing); part = [] })))
 ends-listed number listing page =
     listed-by number (whole_rows listing page) (put_containers (listing.part ++ page) (others_waiting listing))
     ∙ (λ i. cond (waiting-nil listing page i) (HasCopy number (whole_rows listing page))
-    (Lists number (record { rows = whole_rows listing page; waiting = put_containers (listing.part ++ page) (others_waiting listing); part = [] })))
+    (Loads (Lists number (record { rows = whole_rows listing page; waiting = put_containers (listing.part ++ page) (others_waiting listing); part = [] }))))

@@ -10,12 +10,13 @@ use Rattle.cds_object.specs.declared.event.Event.TheVariants.{ObjAdd, ObjMod, Ob
 use Rattle.cds_catalog.proofs.StepsFind.{none≢some}
 use Rattle.cds_follow.specs.Copy.{Version, KnownRow, changed, cannot_be}
 use Rattle.cds_replica.specs.CopyState.{KeptRow, KeptCopy, bare_rows}
-use Rattle.cds_replica.specs.CopySteps.{read_of_row, rows_read, rows_changed_by, AddsNoRoot, cannot_come, first_cannot, Counts, Leaps, Tears, judged_count, count_from, leap_from}
+use Rattle.cds_replica.specs.CopySteps.{read_of_row, rows_read, rows_changed_by, AddsNoRoot, cannot_come, first_cannot, judged_count, count_from, leap_from}
 use Rattle.cds_replica.specs.Outlines.{outlines_of, outlines_cannot}
 use Rattle.cds_replica.specs.declared.outline.Outline.{Outline}
 use Rattle.cds_replica.specs.declared.count_error.CountError.TheVariants.{Jump}
 use Rattle.cds_replica.proofs.KeptOutlines.{outlined-cannot}
 use Rattle.cds_object.specs.Events.{update_of, object_of}
+use Rattle.cds_load.specs.Outcome.{Goes, Jumps, Tears}
 
 -- a loop that changes each item of a list in its place
 pub one_more_changed : {X : Type 0} (f : X → X) (xs ys : List X) (i : ℕ) (x : X) → i < length xs →
@@ -50,13 +51,13 @@ module _ (copy : KeptCopy) (at : ℕ) where
   pub count-torn : (events : List Event) (id : ℕ) → leap_from at events ≡ None → first_cannot (bare_rows copy) events ≡ Some id → count_from copy at events ≡ Tears id
   count-torn [] id e f = none≢some None id refl f
   count-torn (event ∷ events) id e f =
-      (λ i. cond (leaps-not event events e i) (judged_count copy (event ∷ events) (f i)) (Leaps (at + 1) (update_of event)))
+      (λ i. cond (leaps-not event events e i) (judged_count copy (event ∷ events) (f i)) (Jumps (at + 1) (update_of event)))
 
   pub count-counts : (events : List Event) → leap_from at events ≡ None → first_cannot (bare_rows copy) events ≡ None
-      → count_from copy at events ≡ Counts (record { rows = rows_changed_by copy.rows events; read_up_to = copy.read_up_to })
+      → count_from copy at events ≡ Goes (record { rows = rows_changed_by copy.rows events; read_up_to = copy.read_up_to })
   count-counts [] e f = refl
   count-counts (event ∷ events) e f =
-      (λ i. cond (leaps-not event events e i) (judged_count copy (event ∷ events) (f i)) (Leaps (at + 1) (update_of event)))
+      (λ i. cond (leaps-not event events e i) (judged_count copy (event ∷ events) (f i)) (Jumps (at + 1) (update_of event)))
 
 -- what was decided in outline
 pub decided : (copy : KeptCopy) (events : List Event) (outlines : List Outline) (found o : Option ℕ) → outlines ≡ outlines_of copy.rows

@@ -5,14 +5,14 @@ use Rattle.std.specs.List.{list_all, list_any}
 use Rattle.cds_object.specs.Object.{ObjectRow, is_folder}
 use Rattle.cds_object.specs.Tree.{is_child_of}
 use Rattle.cds_object.specs.declared.event.Event.{Event}
-use Rattle.cds_load.specs.Stages.{Held, Idle, Begun, HasToken, HasNumber, HasRoot, Lists, HasPage, HasCopy, Listing, Waiting, listing_of, listed_id, listed_children, all_new, known_ids, fits, put_by, put_rows, put_containers, others_waiting, listed, after_page, Taken, Holds, Unreadable, Torn, taken, page_taken, root_taken}
+use Rattle.cds_load.specs.Stages.{Held, Idle, Begun, HasToken, HasNumber, HasRoot, Lists, HasPage, HasCopy, Listing, Waiting, listing_of, listed_id, listed_children, all_new, known_ids, fits, put_by, put_rows, put_containers, others_waiting, listed, after_page, taken, page_taken, root_taken, Loads}
 use Rattle.cds_load.specs.Server.{page_size}
 use Rattle.cds_load.specs.declared.exchange.Shown.{Shown}
 use Rattle.cds_load.specs.declared.exchange.Shown.TheVariants.{Text, Number, Page, Fault}
 use Rattle.cds_commands.specs.Notes.{Note, changes_above}
 use Rattle.cds_follow.specs.Copy.{KnownRow, known_row, known_of, knows, put_known, Happening, Reads, rows_after, least_unread}
 use Rattle.cds_follow.specs.Inbox.{ReplicaTurn, Begins, Shows, Requests, Accepts, Refuses, Delivers, taken_by}
-use Rattle.cds_follow.specs.Follow.{Known, Outcome, Knows, CannotBeRead, Jumps, Tears, position, new_changes, first_torn, counted_from, judged, with_changes, dropped, load_begun, is_drop, heard_of, with_notes, load_ended, loaded, is_of, row_read, copy_read, with_reply, known_after, known_by}
+use Rattle.cds_follow.specs.Follow.{Known, position, new_changes, first_torn, counted_from, judged, with_changes, dropped, load_begun, is_drop, heard_of, with_notes, load_ended, loaded, is_of, row_read, copy_read, with_reply, known_by}
 use Rattle.cds_follow.specs.ServerLaws.{befalling}
 use Rattle.cds_replica.specs.CopyState.{AreDistinct, IsSound, AreAbove}
 use Rattle.cds_replica.proofs.KeptIds.{swapped-eq, knows-put, distinct-put}
@@ -20,6 +20,7 @@ use Rattle.cds_replica.specs.CopySteps.{count_of}
 use Rattle.cds_replica.specs.Ended.{end_count}
 use Rattle.cds_replica.proofs.KeptCounts.{count-kept, count-sound, read-sound}
 use Rattle.cds_object.specs.Events.{update_of, is_change}
+use Rattle.cds_load.specs.Outcome.{Outcome, Goes, CannotBeRead, Jumps, Tears, after_outcome}
 
 -- ---- the rows of a load
 
@@ -127,12 +128,12 @@ fits-new listing page is e =
 
 abbrev pub SoundHeld : Held → List Happening → Type 0
 SoundHeld Idle happenings = Unit {0}
-SoundHeld Begun happenings = Unit {0}
-SoundHeld HasToken happenings = Unit {0}
-SoundHeld (HasNumber number) happenings = Unit {0}
-SoundHeld (HasRoot number root) happenings = nat_eq root.id 0 ≡ true
-SoundHeld (Lists number listing) happenings = IsListing listing
-SoundHeld (HasPage number listing page) happenings = IsListing listing
+SoundHeld (Loads Begun) happenings = Unit {0}
+SoundHeld (Loads HasToken) happenings = Unit {0}
+SoundHeld (Loads (HasNumber number)) happenings = Unit {0}
+SoundHeld (Loads (HasRoot number root)) happenings = nat_eq root.id 0 ≡ true
+SoundHeld (Loads (Lists number listing)) happenings = IsListing listing
+SoundHeld (Loads (HasPage number listing page)) happenings = IsListing listing
 SoundHeld (HasCopy number rows) happenings = IsSound rows happenings
 
 listed-sound : (number : ℕ) (rows : List ObjectRow) (waiting : List Waiting) → AreLoaded rows → SoundHeld (listed number rows waiting) []
@@ -147,21 +148,22 @@ page-sound number listing page is e = by (nat_eq (length (listing.part ++ page))
 
     by : (b : Bool) → SoundHeld (cond b
         (listed number (put_rows (listing.part ++ page) listing.rows) (put_containers (listing.part ++ page) (others_waiting listing)))
-        (Lists number (record { rows = listing.rows; waiting = listing.waiting; part = listing.part ++ page }))) []
+        (Loads (Lists number (record { rows = listing.rows; waiting = listing.waiting; part = listing.part ++ page })))) []
     by true = listed-sound number (put_rows (listing.part ++ page) listing.rows) (put_containers (listing.part ++ page) (others_waiting listing)) (loaded-puts (listing.part ++ page) listing.rows new is.0)
     by false = (is.0, new)
 
 -- a reply that is taken leads on to what is sound
-abbrev pub SoundTaken : Taken → Type 0
-SoundTaken (Holds held) = SoundHeld held []
-SoundTaken Unreadable = Unit {0}
-SoundTaken (Torn id) = Unit {0}
+abbrev pub SoundTaken : Outcome Held → Type 0
+SoundTaken (Goes held) = SoundHeld held []
+SoundTaken CannotBeRead = Unit {0}
+SoundTaken (Jumps expected first) = Unit {0}
+SoundTaken (Tears id) = Unit {0}
 
 root-sound : (number : ℕ) (rows : List ObjectRow) → SoundTaken (root_taken number rows)
 root-sound number [] = tt
 root-sound number (row ∷ []) = by (nat_eq row.id 0) (is_folder row.content) refl
   where
-    by : (b c : Bool) → nat_eq row.id 0 ≡ b → SoundTaken (cond (b && c) (Holds (HasRoot number row)) (Torn 0))
+    by : (b c : Bool) → nat_eq row.id 0 ≡ b → SoundTaken (cond (b && c) (Goes (Loads (HasRoot number row))) (Tears 0))
     by true true e = e
     by true false e = tt
     by false c e = tt
@@ -171,44 +173,44 @@ judged-sound : (number : ℕ) (listing : Listing) (page : Option (List ObjectRow
 judged-sound number listing None is = tt
 judged-sound number listing (Some page) is = by (fits listing page) refl
   where
-    by : (b : Bool) → fits listing page ≡ b → SoundTaken (cond b (Holds (after_page number listing page)) (Torn (listed_id listing)))
+    by : (b : Bool) → fits listing page ≡ b → SoundTaken (cond b (Goes (after_page number listing page)) (Tears (listed_id listing)))
     by true e = page-sound number listing page is e
     by false e = tt
 
 pub taken-sound : (held : Held) (happenings : List Happening) (shown : Shown) → SoundHeld held happenings → SoundTaken (taken held shown)
 taken-sound Idle h shown is = tt
-taken-sound Begun h (Text token) is = tt
-taken-sound Begun h (Number n) is = tt
-taken-sound Begun h (Page rows total update) is = tt
-taken-sound Begun h (Fault code) is = tt
-taken-sound HasToken h (Text token) is = tt
-taken-sound HasToken h (Number n) is = tt
-taken-sound HasToken h (Page rows total update) is = tt
-taken-sound HasToken h (Fault code) is = tt
-taken-sound (HasNumber number) h (Text token) is = tt
-taken-sound (HasNumber number) h (Number n) is = tt
-taken-sound (HasNumber number) h (Page rows total update) is = root-sound number rows
-taken-sound (HasNumber number) h (Fault code) is = tt
-taken-sound (HasRoot number root) h (Text token) is = tt
-taken-sound (HasRoot number root) h (Number n) is = by (nat_eq n number)
+taken-sound (Loads Begun) h (Text token) is = tt
+taken-sound (Loads Begun) h (Number n) is = tt
+taken-sound (Loads Begun) h (Page rows total update) is = tt
+taken-sound (Loads Begun) h (Fault code) is = tt
+taken-sound (Loads HasToken) h (Text token) is = tt
+taken-sound (Loads HasToken) h (Number n) is = tt
+taken-sound (Loads HasToken) h (Page rows total update) is = tt
+taken-sound (Loads HasToken) h (Fault code) is = tt
+taken-sound (Loads (HasNumber number)) h (Text token) is = tt
+taken-sound (Loads (HasNumber number)) h (Number n) is = tt
+taken-sound (Loads (HasNumber number)) h (Page rows total update) is = root-sound number rows
+taken-sound (Loads (HasNumber number)) h (Fault code) is = tt
+taken-sound (Loads (HasRoot number root)) h (Text token) is = tt
+taken-sound (Loads (HasRoot number root)) h (Number n) is = by (nat_eq n number)
   where
-    by : (b : Bool) → SoundHeld (cond b (Lists number (listing_of root)) Begun) []
+    by : (b : Bool) → SoundHeld (cond b (Loads (Lists number (listing_of root))) (Loads Begun)) []
     by true = ((ap (λ (b : Bool). b || false) is, (refl, tt)), tt)
     by false = tt
-taken-sound (HasRoot number root) h (Page rows total update) is = tt
-taken-sound (HasRoot number root) h (Fault code) is = tt
-taken-sound (Lists number listing) h (Text token) is = tt
-taken-sound (Lists number listing) h (Number n) is = tt
-taken-sound (Lists number listing) h (Page rows total update) is = is
-taken-sound (Lists number listing) h (Fault code) is = is
-taken-sound (HasPage number listing page) h (Text token) is = tt
-taken-sound (HasPage number listing page) h (Number n) is = by (nat_eq n number)
+taken-sound (Loads (HasRoot number root)) h (Page rows total update) is = tt
+taken-sound (Loads (HasRoot number root)) h (Fault code) is = tt
+taken-sound (Loads (Lists number listing)) h (Text token) is = tt
+taken-sound (Loads (Lists number listing)) h (Number n) is = tt
+taken-sound (Loads (Lists number listing)) h (Page rows total update) is = is
+taken-sound (Loads (Lists number listing)) h (Fault code) is = is
+taken-sound (Loads (HasPage number listing page)) h (Text token) is = tt
+taken-sound (Loads (HasPage number listing page)) h (Number n) is = by (nat_eq n number)
   where
-    by : (b : Bool) → SoundTaken (cond b (page_taken number listing page) (Holds Begun))
+    by : (b : Bool) → SoundTaken (cond b (page_taken number listing page) (Goes (Loads Begun)))
     by true = judged-sound number listing page is
     by false = tt
-taken-sound (HasPage number listing page) h (Page rows total update) is = tt
-taken-sound (HasPage number listing page) h (Fault code) is = tt
+taken-sound (Loads (HasPage number listing page)) h (Page rows total update) is = tt
+taken-sound (Loads (HasPage number listing page)) h (Fault code) is = tt
 taken-sound (HasCopy number rows) h shown is = tt
 
 -- ---- what is known
@@ -216,8 +218,8 @@ taken-sound (HasCopy number rows) h shown is = tt
 abbrev pub SoundKnown : Known → Type 0
 SoundKnown known = SoundHeld known.held known.happenings
 
-abbrev pub SoundOutcome : Outcome → Type 0
-SoundOutcome (Knows known) = SoundKnown known
+abbrev pub SoundOutcome : Outcome Known → Type 0
+SoundOutcome (Goes known) = SoundKnown known
 SoundOutcome CannotBeRead = Unit {0}
 SoundOutcome (Jumps expected first) = Unit {0}
 SoundOutcome (Tears id) = Unit {0}
@@ -248,11 +250,11 @@ new-above at (note ∷ notes) =
     (above-lower at (max at note.number) (new_changes (max at note.number) notes) (omega arith) (new-above (max at note.number) notes))
 
 -- changes leave what is held as it is
-counted-held : (rows : List ObjectRow) (known : Known) (at : ℕ) (events : List Event) (now : Known) → counted_from rows known at events ≡ Knows now → now.held ≡ known.held
+counted-held : (rows : List ObjectRow) (known : Known) (at : ℕ) (events : List Event) (now : Known) → counted_from rows known at events ≡ Goes now → now.held ≡ known.held
 counted-held rows known at [] now e = let same : known ≡ now = cc in ap (λ (k : Known). k.held) (sym same)
 counted-held rows known at (event ∷ events) now e = by (nat_eq (update_of event) (at + 1)) (first_torn (rows_after rows known.happenings) (event ∷ events)) e
   where
-    by : (b : Bool) (o : Option ℕ) → cond b (judged known (event ∷ events) o) (Jumps (at + 1) (update_of event)) ≡ Knows now → now.held ≡ known.held
+    by : (b : Bool) (o : Option ℕ) → cond b (judged known (event ∷ events) o) (Jumps (at + 1) (update_of event)) ≡ Goes now → now.held ≡ known.held
     by true (Some id) f = let no : ⊥ = cc in absurd no
     by true None f =
         let same : record known { happenings = befalling (event ∷ events) ++ known.happenings } ≡ now = cc in
@@ -263,8 +265,8 @@ counted-sound : (number : ℕ) (rows : List ObjectRow) (known : Known) (at : ℕ
     → SoundOutcome (counted_from rows known at events)
 counted-sound number rows known at events held sound above = by (counted_from rows known at events) refl
   where
-    by : (o : Outcome) → counted_from rows known at events ≡ o → SoundOutcome o
-    by (Knows now) e =
+    by : (o : Outcome Known) → counted_from rows known at events ≡ o → SoundOutcome o
+    by (Goes now) e =
         subst (λ (h : Held). SoundHeld h now.happenings) (sym (counted-held rows known at events now e ∙ held)) (count-sound rows known now at events sound above e)
     by CannotBeRead e = tt
     by (Jumps expected first) e = tt
@@ -273,16 +275,16 @@ counted-sound number rows known at events held sound above = by (counted_from ro
 changes-sound : (held : Held) (known : Known) (at : ℕ) (events : List Event) → known.held ≡ held → SoundHeld held known.happenings → AreAbove at events
     → SoundOutcome (with_changes held known at events)
 changes-sound Idle known at events e is above = subst (λ (h : Held). SoundHeld h known.happenings) (sym e) tt
-changes-sound Begun known at events e is above = subst (λ (h : Held). SoundHeld h known.happenings) (sym e) tt
-changes-sound HasToken known at events e is above = subst (λ (h : Held). SoundHeld h known.happenings) (sym e) tt
-changes-sound (HasNumber number) known at events e is above = subst (λ (h : Held). SoundHeld h known.happenings) (sym e) tt
-changes-sound (HasRoot number root) known at events e is above = subst (λ (h : Held). SoundHeld h known.happenings) (sym e) is
-changes-sound (Lists number listing) known at events e is above = subst (λ (h : Held). SoundHeld h known.happenings) (sym e) is
-changes-sound (HasPage number listing page) known at events e is above = subst (λ (h : Held). SoundHeld h known.happenings) (sym e) is
+changes-sound (Loads Begun) known at events e is above = subst (λ (h : Held). SoundHeld h known.happenings) (sym e) tt
+changes-sound (Loads HasToken) known at events e is above = subst (λ (h : Held). SoundHeld h known.happenings) (sym e) tt
+changes-sound (Loads (HasNumber number)) known at events e is above = subst (λ (h : Held). SoundHeld h known.happenings) (sym e) tt
+changes-sound (Loads (HasRoot number root)) known at events e is above = subst (λ (h : Held). SoundHeld h known.happenings) (sym e) is
+changes-sound (Loads (Lists number listing)) known at events e is above = subst (λ (h : Held). SoundHeld h known.happenings) (sym e) is
+changes-sound (Loads (HasPage number listing page)) known at events e is above = subst (λ (h : Held). SoundHeld h known.happenings) (sym e) is
 changes-sound (HasCopy number rows) known at events e is above = counted-sound number rows known at events e is above
 
-heard-sound : (notes : List Note) (o : Outcome) → SoundOutcome o → SoundOutcome (heard_of notes o)
-heard-sound notes (Knows known) is = is
+heard-sound : (notes : List Note) (o : Outcome Known) → SoundOutcome o → SoundOutcome (heard_of notes o)
+heard-sound notes (Goes known) is = is
 heard-sound notes CannotBeRead is = tt
 heard-sound notes (Jumps expected first) is = tt
 heard-sound notes (Tears id) is = tt
@@ -296,17 +298,18 @@ notes-sound notes known is =
     by true = tt
     by false = is
 
-loaded-sound : (known : Known) (t : Taken) → SoundTaken t → SoundOutcome (loaded known t)
-loaded-sound known Unreadable is = tt
-loaded-sound known (Torn id) is = tt
-loaded-sound known (Holds Idle) is = tt
-loaded-sound known (Holds Begun) is = tt
-loaded-sound known (Holds HasToken) is = tt
-loaded-sound known (Holds (HasNumber number)) is = tt
-loaded-sound known (Holds (HasRoot number root)) is = is
-loaded-sound known (Holds (Lists number listing)) is = is
-loaded-sound known (Holds (HasPage number listing page)) is = is
-loaded-sound known (Holds (HasCopy number rows)) is =
+loaded-sound : (known : Known) (t : Outcome Held) → SoundTaken t → SoundOutcome (loaded known t)
+loaded-sound known CannotBeRead is = tt
+loaded-sound known (Jumps expected first) is = tt
+loaded-sound known (Tears id) is = tt
+loaded-sound known (Goes Idle) is = tt
+loaded-sound known (Goes (Loads Begun)) is = tt
+loaded-sound known (Goes (Loads HasToken)) is = tt
+loaded-sound known (Goes (Loads (HasNumber number))) is = tt
+loaded-sound known (Goes (Loads (HasRoot number root))) is = is
+loaded-sound known (Goes (Loads (Lists number listing))) is = is
+loaded-sound known (Goes (Loads (HasPage number listing page))) is = is
+loaded-sound known (Goes (HasCopy number rows)) is =
     counted-sound number rows (record { held = HasCopy number rows; base = number; last_note = known.last_note; kept = []; happenings = [] }) number (changes_above number known.kept) refl is (above-filter number known.kept)
 
 read-of-sound : (number : ℕ) (rows : List ObjectRow) (known : Known) (id : ℕ) (shown : List ObjectRow) → known.held ≡ HasCopy number rows → IsSound rows known.happenings
@@ -315,7 +318,7 @@ read-of-sound number rows known id [] held sound = tt
 read-of-sound number rows known id (row ∷ []) held sound = by (is_of id row (known_of id (rows_after rows known.happenings))) refl
   where
     by : (b : Bool) → is_of id row (known_of id (rows_after rows known.happenings)) ≡ b
-        → SoundOutcome (cond b (Knows (record known { happenings = Reads id (record { content = row.content; object_update = row.object_update }) ∷ known.happenings })) (Tears id))
+        → SoundOutcome (cond b (Goes (record known { happenings = Reads id (record { content = row.content; object_update = row.object_update }) ∷ known.happenings })) (Tears id))
     by true e =
         subst (λ (h : Held). SoundHeld h (Reads id (record { content = row.content; object_update = row.object_update }) ∷ known.happenings)) (sym held)
         (read-sound rows known.happenings id row sound e)
@@ -332,16 +335,11 @@ copy-read-sound number rows known (Some id) (Fault code) held sound = subst (λ 
 
 reply-sound : (known : Known) (held : Held) (shown : Shown) → known.held ≡ held → SoundHeld held known.happenings → SoundOutcome (with_reply known held shown)
 reply-sound known Idle shown e is = tt
-reply-sound known Begun shown e is = loaded-sound known (taken Begun shown) (taken-sound Begun known.happenings shown is)
-reply-sound known HasToken shown e is = loaded-sound known (taken HasToken shown) (taken-sound HasToken known.happenings shown is)
-reply-sound known (HasNumber number) shown e is = loaded-sound known (taken (HasNumber number) shown) (taken-sound (HasNumber number) known.happenings shown is)
-reply-sound known (HasRoot number root) shown e is = loaded-sound known (taken (HasRoot number root) shown) (taken-sound (HasRoot number root) known.happenings shown is)
-reply-sound known (Lists number listing) shown e is = loaded-sound known (taken (Lists number listing) shown) (taken-sound (Lists number listing) known.happenings shown is)
-reply-sound known (HasPage number listing page) shown e is = loaded-sound known (taken (HasPage number listing page) shown) (taken-sound (HasPage number listing page) known.happenings shown is)
+reply-sound known (Loads stage) shown e is = loaded-sound known (taken (Loads stage) shown) (taken-sound (Loads stage) known.happenings shown is)
 reply-sound known (HasCopy number rows) shown e is = copy-read-sound number rows known (least_unread known.happenings) shown e is
 
-after-sound : (known : Known) (o : Outcome) → SoundKnown known → SoundOutcome o → SoundKnown (known_after known o)
-after-sound known (Knows now) is then = then
+after-sound : (known : Known) (o : Outcome Known) → SoundKnown known → SoundOutcome o → SoundKnown (after_outcome known o)
+after-sound known (Goes now) is then = then
 after-sound known CannotBeRead is then = is
 after-sound known (Jumps expected first) is then = is
 after-sound known (Tears id) is then = is
@@ -368,7 +366,7 @@ copies-sound turns number rows e = subst (λ (h : Held). SoundHeld h (known_by t
 -- ---- where a load ends
 
 -- the rows that a load ended with are the root's among others, all of different ids
-pub ended-sound : (turns : List ReplicaTurn) (shown : Shown) (number : ℕ) (rows : List ObjectRow) → taken (known_by turns).held shown ≡ Holds (HasCopy number rows) → IsSound rows []
+pub ended-sound : (turns : List ReplicaTurn) (shown : Shown) (number : ℕ) (rows : List ObjectRow) → taken (known_by turns).held shown ≡ Goes (HasCopy number rows) → IsSound rows []
 ended-sound turns shown number rows e =
     subst SoundTaken e (taken-sound (known_by turns).held (known_by turns).happenings shown (turns-sound turns))
 

@@ -14,6 +14,7 @@ pub mod KeptUnread
 pub mod Listings
 pub mod Ordered
 pub mod Pages
+pub mod Phased
 pub mod Placing
 pub mod Replies
 pub mod Runs

@@ -8,10 +8,10 @@ use Rattle.cds_load.specs.declared.exchange.Shown.{Shown}
 use Rattle.cds_exchange.specs.Laws.{ReadingsAreOne}
 use Rattle.cds_commands.specs.Commands.{oldest}
 use Rattle.cds_follow.specs.Inbox.{ReplicaTurn}
-use Rattle.cds_follow.specs.Follow.{Known, CannotBeRead, known_by, next_ask}
+use Rattle.cds_follow.specs.Follow.{known_by, next_ask}
 use Rattle.cds_follow.specs.Given.{moment_after, Asks, given_by}
 use Rattle.cds_follow.specs.Named.{named}
-use Rattle.cds_follow.proofs.Named.{names-same}
+use Rattle.cds_follow.proofs.NamedIn.{given-same}
 use Rattle.cds_replica.specs.Answer.{read_of}
 use Rattle.cds_replica.specs.Attempted.{TakesByAttempt}
 use Rattle.cds_replica.specs.Calls.{HoldsFew, IsAnswer, UnlessMem}
@@ -22,6 +22,7 @@ use Rattle.cds_replica.specs.Steps.{phase_ask}
 use Rattle.cds_replica.specs.declared.error.AnswerError.{AnswerError}
 use Rattle.cds_replica.specs.declared.error.AnswerError.TheVariants.{Unreadable, Jump, Torn, Mem}
 use Rattle.cds_replica.proofs.Keeping.{ask-kept}
+use Rattle.cds_load.specs.Outcome.{CannotBeRead}
 
 next-one : ReadingsAreOne → (ask : Option Ask) (bytes : List ℕ) (one other : Option Shown) → IsNextReading ask bytes one → IsNextReading ask bytes other → one ≡ other
 next-one law None bytes one other is also = is ∙ sym also
@@ -131,7 +132,7 @@ reply-given law old new bytes read result some is takes token names first comman
     moment = moment_after token first (oldest k commands)
 
     asks : phase_ask old.known.phase ≡ next_ask (known_by turns)
-    asks = ask-is old (named names turns) stood ∙ ap next_ask (names-same names turns apart).knows
+    asks = ask-is old (named names turns) stood ∙ ap next_ask (given-same token names first commands entries apart given.2).knows
 
     shows : (ask : Ask) → next_ask (known_by turns) ≡ Some ask → (other : Option Shown) → IsNextReading (next_ask (known_by turns)) bytes other
         → other ≡ Some (reply_to moment ask)

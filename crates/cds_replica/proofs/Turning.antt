@@ -2,16 +2,16 @@
 use Rattle.std.proofs.Common.{◌≡◌, ◌≤◌, ℕ, true, false, cond, ◌||◌, List, [], ◌∷◌, Result, Ok, Err, refl, sym, ap, ◌∙◌, subst}
 use Rattle.std.proofs.lemmas.List.{append-nil}
 use Rattle.cds_object.specs.declared.event.Event.{Event}
-use Rattle.cds_load.specs.Stages.{Held, Idle, Begun, HasToken, HasNumber, HasRoot, Lists, HasPage, HasCopy}
+use Rattle.cds_load.specs.Stages.{Held, Idle, HasCopy, Loads}
 use Rattle.cds_load.specs.declared.exchange.Read.{Read}
 use Rattle.cds_load.specs.declared.exchange.Shown.{Shown}
 use Rattle.cds_commands.specs.Notes.{Note}
 use Rattle.cds_follow.specs.Inbox.{ReplicaTurn, Shows, Accepts, Delivers, Arrival, IsUnknown, IsRepeat, IsTooMany, IsEarly, IsHeld, IsNext, held_limit, arrival, taken_by}
-use Rattle.cds_follow.specs.Follow.{Known, Outcome, Knows, CannotBeRead, Jumps, Tears, with_notes, with_reply, known_after, known_by, is_no, is_turned_away, is_refused, and_turn}
+use Rattle.cds_follow.specs.Follow.{Known, with_notes, with_reply, known_by, is_turned_away, is_refused, and_turn}
 use Rattle.cds_replica.specs.Calls.{TakesTurn, HoldsFew, IsNotice, IsAcceptance, IsAnswer, UnlessNoMemory, UnlessMem, of_notes, IsTaking, IsDelivered}
 use Rattle.cds_replica.specs.Inboxed.{KeptInbox, IsInbox, inbox_of, held_count, arrival_in, with_name, taken_early, with_note, taken_in, followers}
-use Rattle.cds_replica.specs.Steps.{Becomes, Leads, Unreadable, Leap, Tear, with_what, kept_outcome, kept_changes, hears_changes, with_new_changes, answers, IsStep}
-use Rattle.cds_replica.specs.State.{KeptPhase, Loads, Copies, KeptKnown, kept_known, kept_position, ReplicaState, kept_of, StandsFor}
+use Rattle.cds_replica.specs.Steps.{kept_outcome, kept_changes, hears_changes, with_new_changes, answers, IsStep}
+use Rattle.cds_replica.specs.State.{KeptPhase, Copies, KeptKnown, kept_known, kept_position, ReplicaState, kept_of, StandsFor, NoCopy}
 use Rattle.cds_replica.specs.NewChanges.{tells, nothing_told}
 use Rattle.cds_replica.specs.declared.error.AnswerError.{AnswerError}
 use Rattle.cds_replica.specs.declared.error.AnswerError.TheVariants.{Unreadable as AnswerUnreadable, Jump as AnswerJump, Torn as AnswerTorn, Mem as AnswerMem}
@@ -22,11 +22,12 @@ use Rattle.cds_replica.specs.declared.notify_error.NotifyError.TheVariants.{Unkn
 use Rattle.cds_replica.proofs.Inboxed.{held-kept, arrival-kept, accepted-kept, accepted-taken, delivered-kept}
 use Rattle.cds_replica.proofs.KeptTurns.{turns-sound}
 use Rattle.cds_replica.proofs.Keeping.{notes-kept, reply-kept}
+use Rattle.cds_load.specs.Outcome.{Outcome, Goes, CannotBeRead, Jumps, Tears, after_outcome, outcome_map, is_no}
 
 -- ---- outcomes in what is kept are those in what is known
 
-leads-known : (o : Outcome) (kept : KeptKnown) → kept_outcome o ≡ Leads kept → (now : Known) × (o ≡ Knows now) × (kept_known now ≡ kept)
-leads-known (Knows now) kept e = (now, refl, same)
+leads-known : (o : Outcome Known) (kept : KeptKnown) → kept_outcome o ≡ Goes kept → (now : Known) × (o ≡ Goes now) × (kept_known now ≡ kept)
+leads-known (Goes now) kept e = (now, refl, same)
   where
     same : kept_known now ≡ kept
     same = cc
@@ -34,20 +35,20 @@ leads-known CannotBeRead kept e = let no : ⊥ = cc in absurd no
 leads-known (Jumps expected first) kept e = let no : ⊥ = cc in absurd no
 leads-known (Tears id) kept e = let no : ⊥ = cc in absurd no
 
-leap-jumps : (o : Outcome) (expected first : ℕ) → kept_outcome o ≡ Leap expected first → o ≡ Jumps expected first
-leap-jumps (Knows now) expected first e = let no : ⊥ = cc in absurd no
+leap-jumps : (o : Outcome Known) (expected first : ℕ) → kept_outcome o ≡ Jumps expected first → o ≡ Jumps expected first
+leap-jumps (Goes now) expected first e = let no : ⊥ = cc in absurd no
 leap-jumps CannotBeRead expected first e = let no : ⊥ = cc in absurd no
 leap-jumps (Jumps a b) expected first e = cc
 leap-jumps (Tears id) expected first e = let no : ⊥ = cc in absurd no
 
-tear-tears : (o : Outcome) (id : ℕ) → kept_outcome o ≡ Tear id → o ≡ Tears id
-tear-tears (Knows now) id e = let no : ⊥ = cc in absurd no
+tear-tears : (o : Outcome Known) (id : ℕ) → kept_outcome o ≡ Tears id → o ≡ Tears id
+tear-tears (Goes now) id e = let no : ⊥ = cc in absurd no
 tear-tears CannotBeRead id e = let no : ⊥ = cc in absurd no
 tear-tears (Jumps a b) id e = let no : ⊥ = cc in absurd no
 tear-tears (Tears other) id e = cc
 
-unread-cannot : (o : Outcome) → kept_outcome o ≡ Unreadable → o ≡ CannotBeRead
-unread-cannot (Knows now) e = let no : ⊥ = cc in absurd no
+unread-cannot : (o : Outcome Known) → kept_outcome o ≡ CannotBeRead → o ≡ CannotBeRead
+unread-cannot (Goes now) e = let no : ⊥ = cc in absurd no
 unread-cannot CannotBeRead e = refl
 unread-cannot (Jumps a b) e = let no : ⊥ = cc in absurd no
 unread-cannot (Tears id) e = let no : ⊥ = cc in absurd no
@@ -61,9 +62,9 @@ stays : (turn : ReplicaTurn) (turns : List ReplicaTurn) (old new : ReplicaState)
 stays turn turns old new e stood same = same ∙ stood ∙ ap kept_of (λ i. cond (sym e i) turns (turn ∷ turns))
 
 -- what is kept after a turn whose outcome is known
-kept-then : (known now : Known) (inbox : KeptInbox) (o : Outcome) (new : ReplicaState) → o ≡ Knows now → kept_known now ≡ new.known → new.inbox ≡ inbox
-    → new ≡ record { known = kept_known (known_after known o); inbox = inbox }
-kept-then known now inbox o new e same box = λ i. record { known = (sym same ∙ ap (λ (o : Outcome). kept_known (known_after known o)) (sym e)) i; inbox = box i }
+kept-then : (known now : Known) (inbox : KeptInbox) (o : Outcome Known) (new : ReplicaState) → o ≡ Goes now → kept_known now ≡ new.known → new.inbox ≡ inbox
+    → new ≡ record { known = kept_known (after_outcome known o); inbox = inbox }
+kept-then known now inbox o new e same box = λ i. record { known = (sym same ∙ ap (λ (o : Outcome Known). kept_known (after_outcome known o)) (sym e)) i; inbox = box i }
 
 -- ---- few notes are held
 
@@ -100,7 +101,7 @@ accepted-stands name turns old new (Err (Torn id)) stood is =
     (stays (Accepts name) turns old new (ap is_no torn) stood is.1, torn)
 accepted-stands name turns old new (Err Mem) stood is = (tt, tt)
 
-pub taking-unchanged : (becomes : Becomes KeptKnown) (old new : ReplicaState) (inbox : KeptInbox) (error : NotifyError) → IsTaking becomes old inbox new (Err error) → new ≡ old
+pub taking-unchanged : (becomes : Outcome KeptKnown) (old new : ReplicaState) (inbox : KeptInbox) (error : NotifyError) → IsTaking becomes old inbox new (Err error) → new ≡ old
 taking-unchanged becomes old new inbox Unknown is = absurd is
 taking-unchanged becomes old new inbox (Full held) is = absurd is
 taking-unchanged becomes old new inbox (Jump expected first) is = is.1
@@ -110,31 +111,26 @@ taking-unchanged becomes old new inbox Mem is = is
 -- ---- a note is delivered
 
 -- no notes change nothing
-no-notes : (kept : KeptKnown) → with_new_changes false (tells [] (nothing_told (kept_position kept) kept.last_note)) kept ≡ Leads kept
+no-notes : (kept : KeptKnown) → with_new_changes false (tells [] (nothing_told (kept_position kept) kept.last_note)) kept ≡ Goes kept
 no-notes kept = by kept.phase refl
   where
     load : (held : Held) → kept_changes held kept.changes [] ≡ kept.changes
     load Idle = refl
-    load Begun = append-nil kept.changes
-    load HasToken = append-nil kept.changes
-    load (HasNumber number) = append-nil kept.changes
-    load (HasRoot number root) = append-nil kept.changes
-    load (Lists number listing) = append-nil kept.changes
-    load (HasPage number listing page) = append-nil kept.changes
+    load (Loads stage) = append-nil kept.changes
     load (HasCopy number rows) = refl
 
-    now : (phase : KeptPhase) → hears_changes phase (kept_position kept) kept.changes [] ≡ Leads (phase, kept.changes)
-    now (Loads held) = λ i. Leads (Loads held, load held i)
+    now : (phase : KeptPhase) → hears_changes phase (kept_position kept) kept.changes [] ≡ Goes (phase, kept.changes)
+    now (NoCopy held) = λ i. Goes (NoCopy held, load held i)
     now (Copies number copy) = refl
 
-    by : (phase : KeptPhase) → kept.phase ≡ phase → with_new_changes false (tells [] (nothing_told (kept_position kept) kept.last_note)) kept ≡ Leads kept
+    by : (phase : KeptPhase) → kept.phase ≡ phase → with_new_changes false (tells [] (nothing_told (kept_position kept) kept.last_note)) kept ≡ Goes kept
     by phase e =
-        ap (with_what (λ (n : KeptPhase × List Event). record { phase = n.0; base = kept.base; last_note = kept.last_note; changes = n.1 }))
+        ap (outcome_map (λ (n : KeptPhase × List Event). record { phase = n.0; base = kept.base; last_note = kept.last_note; changes = n.1 }))
         ((λ i. hears_changes (e i) (kept_position kept) kept.changes []) ∙ now phase)
-        ∙ (λ i. Leads (record { phase = sym e i; base = kept.base; last_note = kept.last_note; changes = kept.changes }))
+        ∙ (λ i. Goes (record { phase = sym e i; base = kept.base; last_note = kept.last_note; changes = kept.changes }))
 
 module _ (note : Note) (turns : List ReplicaTurn) (old new : ReplicaState) (stood : StandsFor old turns) where
-  abbrev out : Outcome
+  abbrev out : Outcome Known
   out = with_notes (taken_by (Delivers note) turns) (known_by turns)
 
   arrives : arrival_in note old.inbox ≡ arrival note turns
@@ -162,7 +158,7 @@ module _ (note : Note) (turns : List ReplicaTurn) (old new : ReplicaState) (stoo
       → new.known ≡ old.known → new.inbox ≡ with_note arr note old.inbox → StandsFor new (and_turn (Delivers note) turns)
   none arr e kept takes known box =
       let here = at arr (sym arrives ∙ e) kept in
-      let nothing : kept_outcome out ≡ Leads (kept_known (known_by turns)) =
+      let nothing : kept_outcome out ≡ Goes (kept_known (known_by turns)) =
       ap kept_outcome here.1 ∙ ap (λ (notes : List Note). kept_outcome (with_notes notes (known_by turns))) takes
       ∙ notes-kept [] (known_by turns) (turns-sound turns) ∙ no-notes (kept_known (known_by turns)) in
       let lead = leads-known out (kept_known (known_by turns)) nothing in
@@ -215,7 +211,7 @@ pub answered-stands : (shown : Shown) (turns : List ReplicaTurn) (old new : Repl
     → UnlessMem result (StandsFor new (and_turn (Shows shown) turns)) × IsAnswer (with_reply (known_by turns) (known_by turns).held shown) result
 answered-stands shown turns old new result stood box = by result
   where
-    out : Outcome
+    out : Outcome Known
     out = with_reply (known_by turns) (known_by turns).held shown
 
     becomes : answers old.known old.known.phase shown ≡ kept_outcome out
@@ -240,7 +236,7 @@ answered-stands shown turns old new result stood box = by result
         let torn = tear-tears out id (sym becomes ∙ is.0) in (stays (Shows shown) turns old new (ap is_no torn) stood (same is.1), torn)
     by (Err AnswerMem) is = (tt, tt)
 
-pub step-unchanged : {X : Type 0} (becomes : Becomes X) (old new : X) (error : AnswerError) → IsStep becomes old new (Err error) → new ≡ old
+pub step-unchanged : {X : Type 0} (becomes : Outcome X) (old new : X) (error : AnswerError) → IsStep becomes old new (Err error) → new ≡ old
 step-unchanged becomes old new AnswerUnreadable is = is.1
 step-unchanged becomes old new (AnswerJump expected first) is = is.1
 step-unchanged becomes old new (AnswerTorn id) is = is.1

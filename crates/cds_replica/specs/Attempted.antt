@@ -2,14 +2,14 @@
 -- replies that were taken since the load began or its number last changed. They also say that its rows were shown.
 use Rattle.std.specs.Prelude.{◌≡◌, ◌⊎◌, ℕ, true, false, List, ◌∷◌, Option, None, Result, Ok, Err}
 use Rattle.std.specs.Option.{option_and_then}
-use Rattle.cds_load.specs.Attempts.{Verdict, Fine, CannotBeRead, CannotBe, attempt_of, ask_in, verdict_by, says_by, copied_by, ShowsRows}
+use Rattle.cds_load.specs.Attempts.{Verdict, attempt_of, ask_in, verdict_by, says_by, copied_by, ShowsRows, fine}
 use Rattle.cds_load.specs.Stages.{Shows as LoadShows, BehindLoad as LoadRuns, Stands as LoadStands}
 use Rattle.cds_load.specs.declared.exchange.Ask.{Ask}
 use Rattle.cds_load.specs.declared.exchange.Read.{Read}
 use Rattle.cds_load.specs.declared.exchange.Shown.{Shown}
 use Rattle.cds_follow.specs.Copy.{KnownRow, rows_after}
 use Rattle.cds_follow.specs.Inbox.{ReplicaTurn, missing}
-use Rattle.cds_follow.specs.Follow.{Outcome, Jumps, Tears, load_ended, known_by}
+use Rattle.cds_follow.specs.Follow.{Known, load_ended, known_by}
 use Rattle.cds_follow.specs.KnownLaws.{has_copy}
 use Rattle.cds_follow.specs.LoadTurns.{load_turns}
 use Rattle.cds_follow.specs.declared.says.Says.{Says}
@@ -17,6 +17,7 @@ use Rattle.cds_follow.specs.declared.says.Says.TheVariants.{BehindLoad}
 use Rattle.cds_replica.specs.State.{ReplicaState, StandsFor}
 use Rattle.cds_replica.specs.declared.error.AnswerError.{AnswerError}
 use Rattle.cds_replica.specs.declared.error.AnswerError.TheVariants.{Unreadable, Jump, Torn, Mem}
+use Rattle.cds_load.specs.Outcome.{Outcome, CannotBeRead, Jumps, Tears}
 
 -- while no copy stands the next ask is that of the attempt
 abbrev pub AsksByAttempt : ReplicaState → Option Ask → Type 0
@@ -25,7 +26,7 @@ AsksByAttempt kept ask = (turns : List ReplicaTurn) → StandsFor kept turns →
 
 -- how a reply ends a load with a refusal: the attempt with it is complete, at a number. The changes above this number that notes
 -- told meanwhile do not go on from its rows
-pub record EndsRefused (turns : List ReplicaTurn) (shown : Shown) (outcome : Outcome) : Type 0 where
+pub record EndsRefused (turns : List ReplicaTurn) (shown : Shown) (outcome : Outcome Known) : Type 0 where
   pub number : ℕ
   pub complete : says_by (attempt_of (LoadShows shown ∷ load_turns turns)) ≡ LoadStands number
   pub refused : load_ended (known_by turns) number (copied_by (attempt_of (LoadShows shown ∷ load_turns turns))) ≡ outcome
@@ -33,10 +34,10 @@ pub record EndsRefused (turns : List ReplicaTurn) (shown : Shown) (outcome : Out
 -- an answer is the verdict on a reply. If the attempt takes it, the changes that notes told meanwhile may be refused at the
 -- load's end, as they are then. If memory runs out, this is the answer instead
 abbrev pub IsVerdict : List ReplicaTurn → Shown → Verdict → Result Read AnswerError → Type 0
-IsVerdict turns shown verdict (Ok read) = verdict ≡ Fine
+IsVerdict turns shown verdict (Ok read) = verdict ≡ fine
 IsVerdict turns shown verdict (Err Unreadable) = verdict ≡ CannotBeRead
-IsVerdict turns shown verdict (Err (Jump expected first)) = (verdict ≡ Fine) × EndsRefused turns shown (Jumps expected first)
-IsVerdict turns shown verdict (Err (Torn id)) = (verdict ≡ CannotBe id) ⊎ ((verdict ≡ Fine) × EndsRefused turns shown (Tears id))
+IsVerdict turns shown verdict (Err (Jump expected first)) = (verdict ≡ fine) × EndsRefused turns shown (Jumps expected first)
+IsVerdict turns shown verdict (Err (Torn id)) = (verdict ≡ Tears id) ⊎ ((verdict ≡ fine) × EndsRefused turns shown (Tears id))
 IsVerdict turns shown verdict (Err Mem) = Unit {0}
 
 -- while no copy stands a reply is judged by the attempt

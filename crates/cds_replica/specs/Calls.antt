@@ -3,9 +3,9 @@ use Rattle.std.specs.Prelude.{◌≡◌, ◌≤◌, List, ◌∷◌, length, Res
 use Rattle.cds_load.specs.declared.exchange.Read.{Read}
 use Rattle.cds_follow.specs.Inbox.{ReplicaTurn, held_notes, held_limit, Arrival, IsUnknown, IsRepeat, IsTooMany, IsEarly, IsHeld, IsNext}
 use Rattle.cds_commands.specs.Notes.{Note}
-use Rattle.cds_follow.specs.Follow.{Known, Outcome, Knows, CannotBeRead, Jumps, Tears, is_drop, and_turn}
+use Rattle.cds_follow.specs.Follow.{Known, is_drop, and_turn}
 use Rattle.cds_replica.specs.Inboxed.{KeptInbox, with_early, with_waiting, followers, with_next}
-use Rattle.cds_replica.specs.Steps.{Becomes, Leads, Leap, Tear, with_new_changes}
+use Rattle.cds_replica.specs.Steps.{with_new_changes}
 use Rattle.cds_replica.specs.State.{KeptKnown, kept_position, ReplicaState, StandsFor}
 use Rattle.cds_replica.specs.NewChanges.{tells, nothing_told}
 use Rattle.cds_replica.specs.declared.count_error.CountError.{CountError}
@@ -16,6 +16,7 @@ use Rattle.cds_replica.specs.declared.notify_error.NotifyError.{NotifyError}
 use Rattle.cds_replica.specs.declared.notify_error.NotifyError.TheVariants.{Unknown, Full, Jump, Torn, Mem}
 use Rattle.cds_replica.specs.declared.note.Taken.{Taken}
 use Rattle.cds_replica.specs.declared.note.Taken.TheVariants.{Took, Repeat, Early, Held}
+use Rattle.cds_load.specs.Outcome.{Outcome, Goes, CannotBeRead, Jumps, Tears}
 
 -- what stood for some turns stands for them and this one
 abbrev pub GoesOn : ReplicaState → ReplicaTurn → ReplicaState → Type 0
@@ -30,12 +31,12 @@ abbrev pub HoldsFew : ReplicaState → Type 0
 HoldsFew kept = (turns : List ReplicaTurn) → StandsFor kept turns → length (held_notes turns) ≤ held_limit
 
 -- something was taken
-abbrev pub IsTaken : Outcome → Type 0
-IsTaken outcome = (now : Known) × (outcome ≡ Knows now)
+abbrev pub IsTaken : Outcome Known → Type 0
+IsTaken outcome = (now : Known) × (outcome ≡ Goes now)
 
 -- an answer to a note is exactly what becomes of it: by the notes alone, and, if it is the next one, by what the notes tell that
 -- are taken. If memory runs out, this is the answer instead
-abbrev pub IsNotice : Arrival → Outcome → Result Taken NotifyError → Type 0
+abbrev pub IsNotice : Arrival → Outcome Known → Result Taken NotifyError → Type 0
 IsNotice arrives becomes (Ok Took) = (arrives ≡ IsNext) × IsTaken becomes
 IsNotice arrives becomes (Ok Repeat) = arrives ≡ IsRepeat
 IsNotice arrives becomes (Ok Early) = arrives ≡ IsEarly
@@ -47,7 +48,7 @@ IsNotice arrives becomes (Err (Torn id)) = (arrives ≡ IsNext) × (becomes ≡ 
 IsNotice arrives becomes (Err Mem) = Unit {0}
 
 -- an answer to a name that is accepted is exactly what becomes of its early notes
-abbrev pub IsAcceptance : Outcome → Result (Unit {0}) NotifyError → Type 0
+abbrev pub IsAcceptance : Outcome Known → Result (Unit {0}) NotifyError → Type 0
 IsAcceptance becomes (Ok done) = IsTaken becomes
 IsAcceptance becomes (Err Unknown) = ⊥
 IsAcceptance becomes (Err (Full held)) = ⊥
@@ -56,7 +57,7 @@ IsAcceptance becomes (Err (Torn id)) = becomes ≡ Tears id
 IsAcceptance becomes (Err Mem) = Unit {0}
 
 -- an answer to a reply is exactly what becomes of it
-abbrev pub IsAnswer : Outcome → Result Read AnswerError → Type 0
+abbrev pub IsAnswer : Outcome Known → Result Read AnswerError → Type 0
 IsAnswer becomes (Ok read) = IsTaken becomes
 IsAnswer becomes (Err Unreadable) = becomes ≡ CannotBeRead
 IsAnswer becomes (Err (AnswerJump expected first)) = becomes ≡ Jumps expected first
@@ -82,30 +83,30 @@ UnlessMem (Err AnswerMem) fact = Unit {0}
 -- ---- the same in what is kept
 
 -- what becomes of notes that are taken
-abbrev pub of_notes : List Note → KeptKnown → Becomes KeptKnown
+abbrev pub of_notes : List Note → KeptKnown → Outcome KeptKnown
 of_notes notes kept = with_new_changes (is_drop (kept_position kept) notes) (tells notes (nothing_told (kept_position kept) kept.last_note)) kept
 
 -- an answer if notes are to be taken, after which this inbox is kept
-abbrev pub IsTaking : Becomes KeptKnown → ReplicaState → KeptInbox → ReplicaState → Result (Unit {0}) NotifyError → Type 0
-IsTaking becomes old inbox new (Ok done) = (becomes ≡ Leads new.known) × (new.inbox ≡ inbox)
+abbrev pub IsTaking : Outcome KeptKnown → ReplicaState → KeptInbox → ReplicaState → Result (Unit {0}) NotifyError → Type 0
+IsTaking becomes old inbox new (Ok done) = (becomes ≡ Goes new.known) × (new.inbox ≡ inbox)
 IsTaking becomes old inbox new (Err Unknown) = ⊥
 IsTaking becomes old inbox new (Err (Full held)) = ⊥
-IsTaking becomes old inbox new (Err (Jump expected first)) = (becomes ≡ Leap expected first) × (new ≡ old)
-IsTaking becomes old inbox new (Err (Torn id)) = (becomes ≡ Tear id) × (new ≡ old)
+IsTaking becomes old inbox new (Err (Jump expected first)) = (becomes ≡ Jumps expected first) × (new ≡ old)
+IsTaking becomes old inbox new (Err (Torn id)) = (becomes ≡ Tears id) × (new ≡ old)
 IsTaking becomes old inbox new (Err Mem) = new ≡ old
 
 -- an answer to a delivered note, and what is kept then
 abbrev pub IsDelivered : Arrival → Note → ReplicaState → ReplicaState → Result Taken NotifyError → Type 0
 IsDelivered arrives note old new (Ok Took) =
-    (arrives ≡ IsNext) × (of_notes (note ∷ followers old.inbox) old.known ≡ Leads new.known) × (new.inbox ≡ with_next old.inbox)
+    (arrives ≡ IsNext) × (of_notes (note ∷ followers old.inbox) old.known ≡ Goes new.known) × (new.inbox ≡ with_next old.inbox)
 IsDelivered arrives note old new (Ok Repeat) = (arrives ≡ IsRepeat) × (new ≡ old)
 IsDelivered arrives note old new (Ok Early) = (arrives ≡ IsEarly) × (new ≡ record old { inbox = with_early note old.inbox })
 IsDelivered arrives note old new (Ok (Held missing)) = (arrives ≡ IsHeld missing) × (new ≡ record old { inbox = with_waiting note old.inbox })
 IsDelivered arrives note old new (Err Unknown) = (arrives ≡ IsUnknown) × (new ≡ old)
 IsDelivered arrives note old new (Err (Full held)) = (arrives ≡ IsTooMany held) × (new ≡ old)
 IsDelivered arrives note old new (Err (Jump expected first)) =
-    (arrives ≡ IsNext) × (of_notes (note ∷ followers old.inbox) old.known ≡ Leap expected first) × (new ≡ old)
-IsDelivered arrives note old new (Err (Torn id)) = (arrives ≡ IsNext) × (of_notes (note ∷ followers old.inbox) old.known ≡ Tear id) × (new ≡ old)
+    (arrives ≡ IsNext) × (of_notes (note ∷ followers old.inbox) old.known ≡ Jumps expected first) × (new ≡ old)
+IsDelivered arrives note old new (Err (Torn id)) = (arrives ≡ IsNext) × (of_notes (note ∷ followers old.inbox) old.known ≡ Tears id) × (new ≡ old)
 IsDelivered arrives note old new (Err Mem) = new ≡ old
 
 -- the answer to a note whose changes cannot be counted

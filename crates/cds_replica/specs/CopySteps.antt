@@ -10,7 +10,8 @@ use Rattle.cds_object.specs.declared.event.Event.{Event}
 use Rattle.cds_object.specs.declared.event.Event.TheVariants.{ObjAdd, ObjMod, ObjDel, StDone}
 use Rattle.cds_load.specs.Stages.{put_by}
 use Rattle.cds_follow.specs.Copy.{Version, KnownRow, known_row, known_of, parent_in, counts_addition, counts_modification, counts_deletion, added_row, changed, cannot_be, newer}
-use Rattle.cds_follow.specs.Follow.{Outcome, Knows, CannotBeRead, Jumps, Tears as Cannot, is_of}
+use Rattle.cds_load.specs.Outcome.{Outcome, Goes, Jumps, Tears, outcome_map}
+use Rattle.cds_follow.specs.Follow.{Known, is_of}
 use Rattle.cds_replica.specs.CopyState.{KeptRow, KeptCopy, kept_id, copy_of, bare_rows}
 use Rattle.cds_replica.specs.declared.copy_row.ChildChange.{ChildChange}
 use Rattle.cds_replica.specs.declared.copy_row.ChildChange.TheVariants.{Added, Modified, Deleted}
@@ -106,42 +107,33 @@ abbrev pub first_cannot : List KnownRow → List Event → Option ℕ
 first_cannot rows [] = None
 first_cannot rows (event ∷ events) = cond (cannot_come rows event) (Some (object_of event)) (first_cannot (changed rows event) events)
 
--- what becomes of changes on a copy: they are counted, and this is the copy then; or the first of them is not the one after the
--- position; or what is told of this object cannot be
-pub data Count : Type 0 where
-  Counts : KeptCopy → Count
-  Leaps : ℕ → ℕ → Count
-  Tears : ℕ → Count
-
-abbrev pub judged_count : KeptCopy → List Event → Option ℕ → Count
+-- what becomes of changes on a copy
+abbrev pub judged_count : KeptCopy → List Event → Option ℕ → Outcome KeptCopy
 judged_count copy events (Some id) = Tears id
-judged_count copy events None = Counts (record copy { rows = rows_changed_by copy.rows events })
+judged_count copy events None = Goes (record copy { rows = rows_changed_by copy.rows events })
 
-abbrev pub count_from : KeptCopy → ℕ → List Event → Count
-count_from copy at [] = Counts copy
+abbrev pub count_from : KeptCopy → ℕ → List Event → Outcome KeptCopy
+count_from copy at [] = Goes copy
 count_from copy at (event ∷ events) =
     cond (nat_eq (update_of event) (at + 1)) (judged_count copy (event ∷ events) (first_cannot (bare_rows copy) (event ∷ events)))
-    (Leaps (at + 1) (update_of event))
+    (Jumps (at + 1) (update_of event))
 
 -- the same of what a replica knows whose copy began with these rows
-abbrev pub count_of : List ObjectRow → Outcome → Count
-count_of rows (Knows now) = Counts (copy_of rows now.happenings)
-count_of rows CannotBeRead = Tears 0
-count_of rows (Jumps expected first) = Leaps expected first
-count_of rows (Cannot id) = Tears id
+abbrev pub count_of : List ObjectRow → Outcome Known → Outcome KeptCopy
+count_of rows = outcome_map (λ (now : Known). copy_of rows now.happenings)
 
 -- the refusal if the first of changes is not the one after a position
 abbrev pub leap_from : ℕ → List Event → Option CountError
 leap_from at [] = None
 leap_from at (event ∷ events) = cond (nat_eq (update_of event) (at + 1)) None (Some (Jump (at + 1) (update_of event)))
 
--- an answer is exactly what becomes of changes, and a refusal changes nothing. If memory runs out, this is the answer instead,
--- and nothing changes
-abbrev pub IsCount : Count → KeptCopy → KeptCopy → Result (Unit {0}) CountError → Type 0
-IsCount becomes old new (Ok done) = becomes ≡ Counts new
-IsCount becomes old new (Err (Jump expected first)) = (becomes ≡ Leaps expected first) × (new ≡ old)
-IsCount becomes old new (Err (Torn id)) = (becomes ≡ Tears id) × (new ≡ old)
-IsCount becomes old new (Err Mem) = new ≡ old
+-- an answer to changes is exactly what becomes of them, and a refusal changes nothing. If memory runs out, this is the answer
+-- instead, and nothing changes
+abbrev pub IsHeard : {X : Type 0} → Outcome X → X → X → Result (Unit {0}) CountError → Type 0
+IsHeard becomes old new (Ok done) = becomes ≡ Goes new
+IsHeard becomes old new (Err (Jump expected first)) = (becomes ≡ Jumps expected first) × (new ≡ old)
+IsHeard becomes old new (Err (Torn id)) = (becomes ≡ Tears id) × (new ≡ old)
+IsHeard becomes old new (Err Mem) = new ≡ old
 
 -- a row after the object's own row was read
 abbrev pub read_of_row : Version → KeptRow → KeptRow

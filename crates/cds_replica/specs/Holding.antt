@@ -2,7 +2,7 @@
 use Rattle.std.specs.Prelude.{◌≡◌, List, ◌++◌}
 use Rattle.std.specs.Global.{Vec}
 use Rattle.cds_object.specs.Object.{ObjectRow}
-use Rattle.cds_load.specs.Stages.{Held, Listing as Progress, Idle as HoldsNothing, Begun as HoldsBegun, HasToken as HoldsToken, HasNumber as HoldsNumber, HasRoot as HoldsRoot, Lists as HoldsListing, HasPage as HoldsPage}
+use Rattle.cds_load.specs.Stages.{Held, Loads, Listing as Progress, Idle as HoldsNothing, Begun as HoldsBegun, HasToken as HoldsToken, HasNumber as HoldsNumber, HasRoot as HoldsRoot, Lists as HoldsListing, HasPage as HoldsPage}
 use Rattle.cds_replica.specs.declared.listing.Listing.{Listing}
 use Rattle.cds_replica.specs.declared.stage.Stage.{Stage}
 use Rattle.cds_replica.specs.declared.stage.Stage.TheVariants.{Idle, Begun, HasToken, HasNumber, HasRoot, Lists, HasPage}
@@ -22,9 +22,9 @@ GivesBack listing page back = (listing_in back.0 ≡ listing_in listing) × (bac
 -- what is held in each stage of a load
 abbrev pub held_in : Stage → Held
 held_in Idle = HoldsNothing
-held_in Begun = HoldsBegun
-held_in HasToken = HoldsToken
-held_in (HasNumber number) = HoldsNumber number
-held_in (HasRoot number root) = HoldsRoot number root
-held_in (Lists number listing) = HoldsListing number (listing_in listing)
-held_in (HasPage number listing page) = HoldsPage number (listing_in listing) page
+held_in Begun = Loads HoldsBegun
+held_in HasToken = Loads HoldsToken
+held_in (HasNumber number) = Loads (HoldsNumber number)
+held_in (HasRoot number root) = Loads (HoldsRoot number root)
+held_in (Lists number listing) = Loads (HoldsListing number (listing_in listing))
+held_in (HasPage number listing page) = Loads (HoldsPage number (listing_in listing) page)

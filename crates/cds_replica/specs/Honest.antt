@@ -14,7 +14,7 @@ use Rattle.cds_commands.specs.Notes.{Note, alive_names, notes_of}
 use Rattle.cds_commands.specs.Releases.{released_to, releases_of}
 use Rattle.cds_follow.specs.Inbox.{ReplicaTurn, accepted, received, has_seq}
 use Rattle.cds_follow.specs.Follow.{known_by, next_ask}
-use Rattle.cds_follow.specs.Given.{moment_after, Entry, Asks, Granted, Gets, length_at, given_by, IsGiven}
+use Rattle.cds_follow.specs.Given.{grants_of, moment_after, Entry, Asks, Granted, Gets, length_at, given_by, IsGiven}
 use Rattle.cds_follow.specs.HonestLaws.{load_was_begun}
 use Rattle.cds_follow.specs.Named.{TellApart, named_note, named}
 use Rattle.cds_follow.specs.declared.says.Says.{Says}
@@ -50,20 +50,20 @@ IsHeardThen (Err Mem) fact = Unit {0}
 
 -- what stood for the entries of a server stands for them and one more read
 abbrev pub TakesGiven : ReplicaState → Shown → ReplicaState → Result Read AnswerError → Type 0
-TakesGiven old shown new result = (token : List ℕ) (names : ℕ → ℕ) (first : ℕ) (commands : List Command) (entries : List Entry) (k : ℕ) → TellApart names → AreAccepted first commands →
+TakesGiven old shown new result = (token : List ℕ) (names : ℕ → ℕ) (first : ℕ) (commands : List Command) (entries : List Entry) (k : ℕ) → TellApart names (grants_of commands) → AreAccepted first commands →
     IsGiven token first commands (Asks k ∷ entries) → StandsFor old (named names (given_by token first commands entries)) →
     IsReplyOf (moment_after token first (oldest k commands)) (given_by token first commands entries) shown →
     IsReadThen result (StandsFor new (named names (given_by token first commands (Asks k ∷ entries))))
 
 -- and one more note
 abbrev pub HearsGiven : {A : Type 0} → ReplicaState → Note → ReplicaState → Result A NotifyError → Type 0
-HearsGiven old note new result = (token : List ℕ) (names : ℕ → ℕ) (first : ℕ) (commands : List Command) (entries : List Entry) (k : ℕ) (sent : Note) → note ≡ named_note names sent → TellApart names → AreAccepted first commands →
+HearsGiven old note new result = (token : List ℕ) (names : ℕ → ℕ) (first : ℕ) (commands : List Command) (entries : List Entry) (k : ℕ) (sent : Note) → note ≡ named_note names sent → TellApart names (grants_of commands) → AreAccepted first commands →
     IsGiven token first commands (Gets k sent ∷ entries) → StandsFor old (named names (given_by token first commands entries)) →
     IsHeardThen result (StandsFor new (named names (given_by token first commands (Gets k sent ∷ entries))))
 
 -- and one more name that is accepted
 abbrev pub AcceptsGiven : {A : Type 0} → ReplicaState → ℕ → ReplicaState → Result A NotifyError → Type 0
-AcceptsGiven old name new result = (token : List ℕ) (names : ℕ → ℕ) (first : ℕ) (commands : List Command) (entries : List Entry) (k number : ℕ) → name ≡ names number → TellApart names → AreAccepted first commands →
+AcceptsGiven old name new result = (token : List ℕ) (names : ℕ → ℕ) (first : ℕ) (commands : List Command) (entries : List Entry) (k number : ℕ) → name ≡ names number → TellApart names (grants_of commands) → AreAccepted first commands →
     IsGiven token first commands (Granted k number ∷ entries) → StandsFor old (named names (given_by token first commands entries)) →
     IsHeardThen result (StandsFor new (named names (given_by token first commands (Granted k number ∷ entries))))
 
@@ -76,7 +76,7 @@ pub record StoodAfter (first : ℕ) (commands : List Command) (most number : ℕ
 
 -- if a replica stands, it does at a scan end, with the catalog there
 abbrev pub SaysGiven : ReplicaState → Says → Type 0
-SaysGiven kept answer = (token : List ℕ) (names : ℕ → ℕ) (first : ℕ) (commands : List Command) (newest : Entry) (older : List Entry) (number : ℕ) → TellApart names → AreAccepted first commands →
+SaysGiven kept answer = (token : List ℕ) (names : ℕ → ℕ) (first : ℕ) (commands : List Command) (newest : Entry) (older : List Entry) (number : ℕ) → TellApart names (grants_of commands) → AreAccepted first commands →
     IsGiven token first commands (newest ∷ older) → StandsFor kept (named names (given_by token first commands (newest ∷ older))) → answer ≡ Stands number →
     StoodAfter first commands (length_at newest) number (phase_rows kept.known.phase)
 
@@ -84,7 +84,7 @@ SaysGiven kept answer = (token : List ℕ) (names : ℕ → ℕ) (first : ℕ) (
 -- was sent to it was received; no change waits for its release; and nothing is to be read. Then the replica stands at the
 -- server's number
 abbrev pub CompletesGiven : ReplicaState → Says → Type 0
-CompletesGiven kept answer = (token : List ℕ) (names : ℕ → ℕ) (first : ℕ) (commands : List Command) (newest : Entry) (older : List Entry) (name now : ℕ) → TellApart names → AreAccepted first commands →
+CompletesGiven kept answer = (token : List ℕ) (names : ℕ → ℕ) (first : ℕ) (commands : List Command) (newest : Entry) (older : List Entry) (name now : ℕ) → TellApart names (grants_of commands) → AreAccepted first commands →
     IsGiven token first commands (newest ∷ older) →
     StandsFor kept (named names (given_by token first commands (newest ∷ older))) →
     load_was_begun (given_by token first commands (newest ∷ older)) ≡ true →

@@ -4,7 +4,7 @@ use Rattle.cds_object.specs.Object.{ObjectRow}
 use Rattle.cds_load.specs.Stages.{Listing as Progress, listed_children}
 use Rattle.cds_replica.specs.Ended.{is_end}
 use Rattle.cds_replica.specs.Holding.{held_in}
-use Rattle.cds_replica.specs.State.{KeptPhase, Loads, Copies}
+use Rattle.cds_replica.specs.State.{KeptPhase, Copies, NoCopy}
 use Rattle.cds_replica.specs.declared.count_error.CountError.{CountError}
 use Rattle.cds_replica.specs.declared.count_error.CountError.TheVariants.{Jump as CountJump, Torn as CountTorn, Mem as CountMem}
 use Rattle.cds_replica.specs.declared.error.AnswerError.{AnswerError}
@@ -13,7 +13,7 @@ use Rattle.cds_replica.specs.declared.phase.Phase.{Phase}
 use Rattle.cds_replica.specs.declared.phase.Phase.TheVariants.{Load, Copy}
 
 abbrev pub phase_in : Phase → KeptPhase
-phase_in (Load stage) = Loads (held_in stage)
+phase_in (Load stage) = NoCopy (held_in stage)
 phase_in (Copy number copy) = Copies number copy
 
 -- whether a page ends a load: it is its container's last, no other container waits, and none was shown under this one

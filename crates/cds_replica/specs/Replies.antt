@@ -9,8 +9,8 @@ use Rattle.cds_load.specs.declared.exchange.Shown.{Shown}
 use Rattle.cds_exchange.specs.Readings.{ReadsAs, IsReading}
 use Rattle.cds_commands.specs.Commands.{Command, oldest, AreAccepted}
 use Rattle.cds_follow.specs.Inbox.{ReplicaTurn, Shows}
-use Rattle.cds_follow.specs.Follow.{Known, Outcome, CannotBeRead, known_by, next_ask, with_reply, and_turn}
-use Rattle.cds_follow.specs.Given.{moment_after, Entry, Asks, given_by, IsGiven}
+use Rattle.cds_follow.specs.Follow.{Known, known_by, next_ask, with_reply, and_turn}
+use Rattle.cds_follow.specs.Given.{grants_of, moment_after, Entry, Asks, given_by, IsGiven}
 use Rattle.cds_follow.specs.Named.{TellApart, named}
 use Rattle.cds_replica.specs.Answer.{read_of}
 use Rattle.cds_replica.specs.Attempted.{TakesByAttempt}
@@ -19,6 +19,7 @@ use Rattle.cds_replica.specs.Honest.{IsReadThen, TakesGiven}
 use Rattle.cds_replica.specs.State.{ReplicaState, StandsFor}
 use Rattle.cds_replica.specs.declared.error.AnswerError.{AnswerError}
 use Rattle.cds_replica.specs.declared.error.AnswerError.TheVariants.{Unreadable}
+use Rattle.cds_load.specs.Outcome.{Outcome, CannotBeRead}
 
 -- what the bytes of a reply are read as to the next ask; if nothing is asked they are read as nothing
 abbrev pub IsNextReading : Option Ask → List ℕ → Option Shown → Type 0
@@ -31,7 +32,7 @@ and_shown None turns = turns
 and_shown (Some shown) turns = and_turn (Shows shown) turns
 
 -- what becomes of what was read
-abbrev pub with_reading : Known → Option Shown → Outcome
+abbrev pub with_reading : Known → Option Shown → Outcome Known
 with_reading known None = CannotBeRead
 with_reading known (Some shown) = with_reply known known.held shown
 
@@ -78,7 +79,7 @@ IsReplyGiven moment turns bytes = (ask : Ask) → next_ask (known_by turns) ≡ 
 -- what stood for the entries of a server stands for them and one more read
 abbrev pub AnswersGiven : ReplicaState → List ℕ → ReplicaState → Result Read AnswerError → Type 0
 AnswersGiven old bytes new result = (token : List ℕ) (names : ℕ → ℕ) (first : ℕ) (commands : List Command) (entries : List Entry) (k : ℕ) →
-    TellApart names → AreAccepted first commands →
+    TellApart names (grants_of commands) → AreAccepted first commands →
     IsGiven token first commands (Asks k ∷ entries) → StandsFor old (named names (given_by token first commands entries)) →
     IsReplyGiven (moment_after token first (oldest k commands)) (given_by token first commands entries) bytes →
     IsReadThen result (StandsFor new (named names (given_by token first commands (Asks k ∷ entries))))

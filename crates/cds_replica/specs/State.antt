@@ -2,26 +2,22 @@
 -- it took (this project's profile).
 use Rattle.std.specs.Prelude.{◌≡◌, ℕ, max, List}
 use Rattle.cds_object.specs.declared.event.Event.{Event}
-use Rattle.cds_load.specs.Stages.{Held, Idle, Begun, HasToken, HasNumber, HasRoot, Lists, HasPage, HasCopy}
+use Rattle.cds_load.specs.Stages.{Held, Idle, Loads, HasCopy}
 use Rattle.cds_follow.specs.Inbox.{ReplicaTurn}
 use Rattle.cds_follow.specs.Copy.{Happening}
 use Rattle.cds_follow.specs.Follow.{Known, known_by}
 use Rattle.cds_replica.specs.CopyState.{KeptCopy, copy_of}
 use Rattle.cds_replica.specs.Inboxed.{KeptInbox, inbox_of}
 
--- the stage of a load; or the number that a load read which ended, and its copy, which goes on with the changes of notes
+-- what is held while no copy stands; or the number that a load read which ended, and its copy, which goes on with the changes of
+-- notes
 pub data KeptPhase : Type 0 where
-  Loads : Held → KeptPhase
+  NoCopy : Held → KeptPhase
   Copies : ℕ → KeptCopy → KeptPhase
 
 abbrev pub phase_of : Held → List Happening → KeptPhase
-phase_of Idle happenings = Loads Idle
-phase_of Begun happenings = Loads Begun
-phase_of HasToken happenings = Loads HasToken
-phase_of (HasNumber number) happenings = Loads (HasNumber number)
-phase_of (HasRoot number root) happenings = Loads (HasRoot number root)
-phase_of (Lists number listing) happenings = Loads (Lists number listing)
-phase_of (HasPage number listing page) happenings = Loads (HasPage number listing page)
+phase_of Idle happenings = NoCopy Idle
+phase_of (Loads stage) happenings = NoCopy (Loads stage)
 phase_of (HasCopy number rows) happenings = Copies number (copy_of rows happenings)
 
 -- what is kept besides the notes: the load or the copy; the number that the last ended load read; the greatest number of a note

@@ -6,7 +6,7 @@ ghost use Rattle.cds_follow.specs.Copy.{shown_row};
 ghost use Rattle.cds_replica.specs.Answer.{read_of};
 ghost use Rattle.cds_replica.specs.Steps.{IsStep, copy_takes, row_of_read};
 ghost use Rattle.cds_replica.specs.CopyState.{AreAbove, bare_rows, lesser_of, least_wanted};
-ghost use Rattle.cds_replica.specs.CopySteps.{IsCount, count_from, leap_from, copy_read, version_of, can_be_of};
+ghost use Rattle.cds_replica.specs.CopySteps.{IsHeard, count_from, leap_from, copy_read, version_of, can_be_of};
 
 use crate::AnswerError;
 use crate::copy_row::CopyRow;
@@ -134,7 +134,7 @@ impl CatalogCopy {
     /// anything is changed.
     pub fn count(&mut self, alloc: Global, at: u32, events: &[Event]) -> Result<(), CountError>
         requires { AreAbove at events.now }
-        ensures { IsCount (count_from self.old at events.now) self.old self.new result }
+        ensures { IsHeard (count_from self.old at events.now) self.old self.new result }
     {
         match leap(at, events) {
             Some(leap) => return Err(leap),

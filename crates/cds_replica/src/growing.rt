@@ -1,7 +1,7 @@
 //! How a listing begins and grows.
 
 ghost use Rattle.std.specs.Prelude.{◌≡◌, ℕ, ◌+◌, ◌^◌, ◌<◌, ◌≤◌, ◌∷◌, ◌++◌, [], false, nat_eq, length, drop, OnOk, IfOk, IfErr, vec_len, vec_capacity};
-ghost use Rattle.cds_load.specs.Stages.{Lists, put_rows, put_containers, listing_of, listed, listed_children, after_page};
+ghost use Rattle.cds_load.specs.Stages.{Lists, Loads, put_rows, put_containers, listing_of, listed, listed_children, after_page};
 ghost use Rattle.cds_replica.specs.Ended.{is_end};
 ghost use Rattle.cds_replica.specs.Holding.{listing_in, GivesBack, with_part};
 ghost use Rattle.cds_replica.specs.Order.{KeysAscend, id_of_row, id_of_waiting};
@@ -36,7 +36,7 @@ impl Listing {
     pub fn with_page(self, alloc: Global, page: Vec<Row>) -> Result<Listing, (Listing, Vec<Row>)>
         requires short { length self.part.items + length page.items < 2 ^ 32 }
         requires goes_on { ends_load (listing_in self) page.items ≡ false }
-        ensures ok { IfOk result (λ listing. (number : ℕ) → after_page number (listing_in self) page.items ≡ Lists number (listing_in listing)) }
+        ensures ok { IfOk result (λ listing. (number : ℕ) → after_page number (listing_in self) page.items ≡ Loads (Lists number (listing_in listing))) }
         ensures err { IfErr result (λ back. GivesBack self page back) }
     {
         if self.is_last(page.as_slice()) {
@@ -92,7 +92,7 @@ impl Listing {
         requires short { length self.part.items + length page.items < 2 ^ 32 }
         requires goes_on { is_end (listing_in self) page.items ≡ false }
         ensures ok { IfOk result (λ listing. (number : ℕ) → listed number (put_rows (self.part.items ++ page.items) self.rows.items)
-            (put_containers (self.part.items ++ page.items) (drop 1 self.waiting.items)) ≡ Lists number (listing_in listing)) }
+            (put_containers (self.part.items ++ page.items) (drop 1 self.waiting.items)) ≡ Loads (Lists number (listing_in listing))) }
         ensures err { IfErr result (λ back. GivesBack self page back) }
     {
         let Listing {

@@ -4,7 +4,8 @@ ghost use Rattle.std.specs.Prelude.{◌≡◌, map, IfOk, option_copied, slice_g
 ghost use Rattle.cds_follow.specs.Follow.{nothing_known};
 ghost use Rattle.cds_replica.specs.Answer.{read_of};
 ghost use Rattle.cds_replica.specs.CopyState.{AreAbove, least_wanted};
-ghost use Rattle.cds_replica.specs.Steps.{IsHeard, IsStep, kept_begun, hears, with_new_changes, answers, phase_ask, phase_all, phase_rows, phase_tells, copy_tells, with_phase};
+ghost use Rattle.cds_replica.specs.CopySteps.{IsHeard};
+ghost use Rattle.cds_replica.specs.Steps.{IsStep, kept_begun, hears, with_new_changes, answers, phase_ask, phase_all, phase_rows, phase_tells, copy_tells, with_phase};
 ghost use Rattle.cds_replica.specs.Phases.{phase_in};
 ghost use Rattle.cds_replica.specs.State.{kept_known, kept_position};
 

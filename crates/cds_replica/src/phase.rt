@@ -2,7 +2,8 @@
 
 ghost use Rattle.std.specs.Prelude.{◌≡◌, map, option_copied, slice_get};
 ghost use Rattle.cds_replica.specs.CopyState.{AreAbove};
-ghost use Rattle.cds_replica.specs.Steps.{IsHeard, hears_changes, phase_ask, phase_all, phase_rows};
+ghost use Rattle.cds_replica.specs.CopySteps.{IsHeard};
+ghost use Rattle.cds_replica.specs.Steps.{hears_changes, phase_ask, phase_all, phase_rows};
 ghost use Rattle.cds_replica.specs.Phases.{phase_in};
 
 use crate::copy::CatalogCopy;

@@ -3,9 +3,10 @@
 ghost use Rattle.std.specs.Prelude.{◌≡◌, [], List, ◌∷◌, ◌++◌, None, map, IsOk, IfOk, IfSome, IsSome, IsTrue, OnOk, OnErr, option_copied, slice_get, codes};
 ghost use Rattle.std.specs.List.{filter_map};
 ghost use Rattle.std.specs.Option.{option_map};
+ghost use Rattle.cds_load.specs.Outcome.{CannotBeRead};
 ghost use Rattle.cds_follow.specs.Copy.{shown_row};
 ghost use Rattle.cds_follow.specs.Inbox.{ReplicaTurn, Begins, Shows, Requests, Accepts, Refuses, Delivers, is_out, accepted, arrival, taken_by};
-ghost use Rattle.cds_follow.specs.Follow.{CannotBeRead, known_by, next_ask, says, copied, with_notes, with_reply};
+ghost use Rattle.cds_follow.specs.Follow.{known_by, next_ask, says, copied, with_notes, with_reply};
 ghost use Rattle.cds_follow.specs.Seen.{WasShown};
 ghost use Rattle.cds_exchange.specs.Asking.{action_of};
 ghost use Rattle.cds_soap.specs.Written.{written_action};

@@ -3,11 +3,12 @@
 ghost use Rattle.std.specs.Prelude.{◌≡◌, ◌+◌, ◌<◌, ◌^◌, ◌&&◌, List, true, false, nat_eq, length, IfOk};
 ghost use Rattle.cds_object.specs.Object.{is_folder};
 ghost use Rattle.cds_object.specs.declared.event.Event.{Event};
-ghost use Rattle.cds_load.specs.Stages.{Held, Taken, Begun as HoldsBegun, HasToken as HoldsToken, HasNumber as HoldsNumber, HasRoot as HoldsRoot, Lists as HoldsListing, HasPage as HoldsPage, Holds, taken, page_taken, after_page};
-ghost use Rattle.cds_replica.specs.Answer.{IsOutcome, read_of, only};
+ghost use Rattle.cds_load.specs.Outcome.{Outcome};
+ghost use Rattle.cds_load.specs.Stages.{Held, Loads, Begun as HoldsBegun, HasToken as HoldsToken, HasNumber as HoldsNumber, HasRoot as HoldsRoot, Lists as HoldsListing, HasPage as HoldsPage, taken, page_taken, after_page};
+ghost use Rattle.cds_replica.specs.Answer.{read_of, only};
 ghost use Rattle.cds_replica.specs.Holding.{held_in, listing_in};
 ghost use Rattle.cds_replica.specs.Steps.{IsStep, load_takes, leads_to};
-ghost use Rattle.cds_replica.specs.State.{Loads};
+ghost use Rattle.cds_replica.specs.State.{NoCopy};
 ghost use Rattle.cds_replica.specs.Phases.{phase_in, ends_load, answer_of};
 
 use crate::AnswerError;
@@ -28,7 +29,7 @@ pub type PhaseStep = (Phase, Result<Read, AnswerError>);
 impl Stage {
     /// Returns what a reply leads to, with the changes that were kept for the load's end.
     pub fn take(self, alloc: Global, changes: &[Event], shown: Shown) -> PhaseStep
-        ensures outcome { IsStep (load_takes changes.now (taken (held_in self) shown)) (Loads (held_in self)) (phase_in result.0) result.1 }
+        ensures outcome { IsStep (load_takes changes.now (taken (held_in self) shown)) (NoCopy (held_in self)) (phase_in result.0) result.1 }
         ensures read { IfOk result.1 (λ read. read ≡ read_of shown) }
     {
         match self {
@@ -51,15 +52,15 @@ impl Stage {
 
 /// Returns the phase of a load that goes on.
 fn goes_on(step: StageStep) -> PhaseStep
-    ensures step { (becomes : Taken) (old : Held) (changes : List Event) → IsOutcome becomes old (held_in step.0) step.1 →
-        IsStep (load_takes changes becomes) (Loads old) (phase_in result.0) result.1 }
+    ensures step { (becomes : Outcome Held) (old : Held) (changes : List Event) → IsStep becomes old (held_in step.0) step.1 →
+        IsStep (load_takes changes becomes) (NoCopy old) (phase_in result.0) result.1 }
     ensures read { (shown : Read) → IfOk step.1 (λ read. read ≡ shown) → IfOk result.1 (λ read. read ≡ shown) }
 {
     (Phase::Load(step.0), step.1)
 }
 
 fn take_token(shown: &Shown) -> StageStep
-    ensures outcome { IsOutcome (taken HoldsBegun shown.now) HoldsBegun (held_in result.0) result.1 }
+    ensures outcome { IsStep (taken (Loads HoldsBegun) shown.now) (Loads HoldsBegun) (held_in result.0) result.1 }
     ensures read { IfOk result.1 (λ read. read ≡ read_of shown.now) }
 {
     match shown {
@@ -69,7 +70,7 @@ fn take_token(shown: &Shown) -> StageStep
 }
 
 fn take_number(shown: &Shown) -> StageStep
-    ensures outcome { IsOutcome (taken HoldsToken shown.now) HoldsToken (held_in result.0) result.1 }
+    ensures outcome { IsStep (taken (Loads HoldsToken) shown.now) (Loads HoldsToken) (held_in result.0) result.1 }
     ensures read { IfOk result.1 (λ read. read ≡ read_of shown.now) }
 {
     match shown {
@@ -79,7 +80,7 @@ fn take_number(shown: &Shown) -> StageStep
 }
 
 fn take_root(number: u32, shown: Shown) -> StageStep
-    ensures outcome { IsOutcome (taken (HoldsNumber number) shown) (HoldsNumber number) (held_in result.0) result.1 }
+    ensures outcome { IsStep (taken (Loads (HoldsNumber number)) shown) (Loads (HoldsNumber number)) (held_in result.0) result.1 }
     ensures read { IfOk result.1 (λ read. read ≡ read_of shown) }
 {
     let Shown::Page { rows, .. } = shown else {
@@ -113,7 +114,7 @@ fn is_root(row: &Row) -> bool
 }
 
 fn take_number_after_root(alloc: Global, number: u32, root: Row, shown: &Shown) -> StageStep
-    ensures outcome { IsOutcome (taken (HoldsRoot number root) shown.now) (HoldsRoot number root) (held_in result.0) result.1 }
+    ensures outcome { IsStep (taken (Loads (HoldsRoot number root)) shown.now) (Loads (HoldsRoot number root)) (held_in result.0) result.1 }
     ensures read { IfOk result.1 (λ read. read ≡ read_of shown.now) }
 {
     let Shown::Number(second) = shown else {
@@ -132,7 +133,7 @@ fn take_number_after_root(alloc: Global, number: u32, root: Row, shown: &Shown) 
 }
 
 fn take_page(number: u32, listing: Listing, shown: Shown) -> StageStep
-    ensures outcome { IsOutcome (taken (HoldsListing number (listing_in listing)) shown) (HoldsListing number (listing_in listing))
+    ensures outcome { IsStep (taken (Loads (HoldsListing number (listing_in listing))) shown) (Loads (HoldsListing number (listing_in listing)))
         (held_in result.0) result.1 }
     ensures read { IfOk result.1 (λ read. read ≡ read_of shown) }
 {
@@ -174,8 +175,8 @@ fn take_number_after_page(
     changes: &[Event],
     shown: &Shown,
 ) -> PhaseStep
-    ensures outcome { IsStep (load_takes changes.now (taken (HoldsPage number (listing_in listing) page) shown.now))
-        (Loads (HoldsPage number (listing_in listing) page)) (phase_in result.0) result.1 }
+    ensures outcome { IsStep (load_takes changes.now (taken (Loads (HoldsPage number (listing_in listing) page)) shown.now))
+        (NoCopy (Loads (HoldsPage number (listing_in listing) page))) (phase_in result.0) result.1 }
     ensures read { IfOk result.1 (λ read. read ≡ read_of shown.now) }
 {
     let Shown::Number(again) = shown else {
@@ -192,7 +193,7 @@ fn take_number_after_page(
 
 /// Returns the load as it stands with a page.
 fn with_page(number: u32, listing: Listing, page: Option<Rows>) -> Phase
-    ensures { phase_in result ≡ Loads (HoldsPage number (listing_in listing) page) }
+    ensures { phase_in result ≡ NoCopy (Loads (HoldsPage number (listing_in listing) page)) }
 {
     Phase::Load(Stage::HasPage {
         number,
@@ -210,7 +211,7 @@ fn judge_page(
     changes: &[Event],
 ) -> PhaseStep
     ensures outcome { IsStep (load_takes changes.now (page_taken number (listing_in listing) page))
-        (Loads (HoldsPage number (listing_in listing) page)) (phase_in result.0) result.1 }
+        (NoCopy (Loads (HoldsPage number (listing_in listing) page))) (phase_in result.0) result.1 }
     ensures read { IfOk result.1 (λ read. read ≡ Read.Ok) }
 {
     match page {
@@ -237,7 +238,7 @@ fn add_page(
 ) -> PhaseStep
     requires { length listing.part.items + length page < 2 ^ 32 }
     ensures outcome { IsStep (leads_to changes.now (after_page number (listing_in listing) page))
-        (Loads (HoldsPage number (listing_in listing) (Some page))) (phase_in result.0) result.1 }
+        (NoCopy (Loads (HoldsPage number (listing_in listing) (Some page)))) (phase_in result.0) result.1 }
     ensures read { IfOk result.1 (λ read. read ≡ Read.Ok) }
 {
     if listing.ends_load(page.as_slice()) {
@@ -252,7 +253,7 @@ fn go_on(alloc: Global, number: u32, listing: Listing, page: Rows, changes: &[Ev
     requires short { length listing.part.items + length page < 2 ^ 32 }
     requires goes_on { ends_load (listing_in listing) page ≡ false }
     ensures outcome { IsStep (leads_to changes.now (after_page number (listing_in listing) page))
-        (Loads (HoldsPage number (listing_in listing) (Some page))) (phase_in result.0) result.1 }
+        (NoCopy (Loads (HoldsPage number (listing_in listing) (Some page)))) (phase_in result.0) result.1 }
     ensures read { IfOk result.1 (λ read. read ≡ Read.Ok) }
 {
     match listing.with_page(alloc, page.into_vec()) {
@@ -274,7 +275,7 @@ fn end_load(
 ) -> PhaseStep
     requires ends { ends_load (listing_in listing) page ≡ true }
     ensures outcome { IsStep (leads_to changes.now (after_page number (listing_in listing) page))
-        (Loads (HoldsPage number (listing_in listing) (Some page))) (phase_in result.0) result.1 }
+        (NoCopy (Loads (HoldsPage number (listing_in listing) (Some page)))) (phase_in result.0) result.1 }
     ensures read { IfOk result.1 (λ read. read ≡ Read.Ok) }
 {
     match listing.into_copy(alloc, number, page.into_vec(), changes) {

@@ -14,7 +14,7 @@ use Rattle.cds_catalog.proofs.Numbers.{ends_rise, equal_ends_equal_catalogs}
 use Rattle.cds_load.specs.declared.exchange.Ask.{Ask as Asked}
 use Rattle.cds_load.specs.declared.exchange.Shown.{Shown}
 use Rattle.cds_load.specs.Server.{Moment, reply_to}
-use Rattle.cds_load.specs.Stages.{Held, Idle, Begun, HasToken, HasNumber, HasRoot, Lists, HasPage, HasCopy, taken, held_after, held_by, next_ask as load_ask, Begins as LoadBegins, Shows as LoadShows}
+use Rattle.cds_load.specs.Stages.{Held, Idle, Begun, HasToken, HasNumber, HasRoot, Lists, HasPage, HasCopy, taken, held_by, next_ask as load_ask, Begins as LoadBegins, Shows as LoadShows, Loads}
 use Rattle.cds_script.specs.Report.{script_token, number_of, first_of, clock_of, records_since, Played, after_reply, after_note, sent_note, given_up, with_renewal, lives, play, played, history_of, answer_text}
 use Rattle.cds_load.specs.Loads.{load_reads, held_with, read_once}
 use Rattle.cds_script.specs.LoadBounds.{answered, drops, reply_drops, note_drops, answered_after, answered_since, loads_are_bounded, all_turns_bound_loads}
@@ -27,7 +27,7 @@ use Rattle.cds_commands.specs.Notes.{Note, has_room, notes_of}
 use Rattle.cds_commands.specs.Subscriptions.{granted}
 use Rattle.cds_follow.specs.Copy.{least_unread, read_up_to}
 use Rattle.cds_follow.specs.Inbox.{ReplicaTurn, Begins, Shows, Requests, Accepts, Refuses, Delivers, accepted, missing, taken_by, arrival}
-use Rattle.cds_follow.specs.Follow.{Known, Knows, position, is_drop, with_notes, with_reply, known_by, is_no, is_turned_away, is_refused, and_turn, ask_of, next_ask, copy_says, says_without_gap, says_of, says}
+use Rattle.cds_follow.specs.Follow.{Known, position, is_drop, with_notes, with_reply, known_by, is_turned_away, is_refused, and_turn, ask_of, next_ask, copy_says, says_without_gap, says_of, says}
 use Rattle.cds_follow.specs.Given.{moment_after, asked_at, given_by, latest_length}
 use Rattle.cds_follow.specs.HonestLaws.{begins_load, load_was_begun}
 use Rattle.cds_follow.specs.KnownLaws.{has_copy}
@@ -46,6 +46,7 @@ use Rattle.cds_script.proofs.Stood.{read-taken, note-taken, name-taken, may-befo
 use Rattle.cds_script.specs.declared.reply.HeldReply.{HeldReply}
 use Rattle.cds_script.specs.declared.reply.HeldReply.TheVariants.{NoReply, Named, Refusal}
 use Rattle.cds_script.specs.Script.{grant_at, granted_seconds}
+use Rattle.cds_load.specs.Outcome.{Goes, after_outcome, is_no}
 
 -- ---- what is owed
 
@@ -57,12 +58,12 @@ stale-not_idle m held r stale e = let P : Held → Type 0 = λ h. Stale m h r in
 
 stale-some : (m : Moment) (held : Held) → Stale m held 0 → ⊥
 stale-some m Idle stale = stale
-stale-some m Begun stale = stale
-stale-some m HasToken stale = stale
-stale-some m (HasNumber number) stale = omega (arith, stale.1)
-stale-some m (HasRoot number root) stale = omega (arith, stale.1)
-stale-some m (Lists number l) stale = omega (arith, stale.1)
-stale-some m (HasPage number l page) stale = omega (arith, stale.1)
+stale-some m (Loads Begun) stale = stale
+stale-some m (Loads HasToken) stale = stale
+stale-some m (Loads (HasNumber number)) stale = omega (arith, stale.1)
+stale-some m (Loads (HasRoot number root)) stale = omega (arith, stale.1)
+stale-some m (Loads (Lists number l)) stale = omega (arith, stale.1)
+stale-some m (Loads (HasPage number l page)) stale = omega (arith, stale.1)
 stale-some m (HasCopy number rows) stale = stale
 
 -- a replica that holds no copy owes so many reads
@@ -86,9 +87,9 @@ same-bound m r then n begun held (inl none) = inl (begun ∙ none.0, held ∙ no
 same-bound m r then n begun held (inr (inl copy)) = inr (inl (ap has_copy held ∙ copy))
 same-bound m r then n begun held (inr (inr owing)) = inr (inr (subst (λ (h : Held). Owing m h n) (sym held) owing))
 
-begun-bound : (m : Moment) (r : List ReplicaTurn) → (known_by r).held ≡ Begun → Bound m r 0
+begun-bound : (m : Moment) (r : List ReplicaTurn) → (known_by r).held ≡ (Loads Begun) → Bound m r 0
 begun-bound m r held = inr (inr (subst (λ (h : Held). Owing m h 0) (sym held) (record {
-  begun = λ (e : Begun ≡ Idle). cc;
+  begun = λ (e : (Loads Begun) ≡ Idle). cc;
   left = load_reads m.rows;
   bound = omega arith;
   owes = inl refl;
@@ -183,17 +184,12 @@ read-owes Stood m served tree held ask (suc n) asks given (inr stale) = by (read
 -- while no copy stands the next ask is the load's
 ask-load : (known : Known) (held : Held) → has_copy held ≡ false → ask_of known held ≡ load_ask held
 ask-load known Idle c = refl
-ask-load known Begun c = refl
-ask-load known HasToken c = refl
-ask-load known (HasNumber number) c = refl
-ask-load known (HasRoot number root) c = refl
-ask-load known (Lists number listing) c = refl
-ask-load known (HasPage number listing page) c = refl
+ask-load known (Loads stage) c = refl
 ask-load known (HasCopy number rows) c = absurd (cc)
 
 -- what is held after a reply that is not refused: where a copy stands it stays
 reply-held : (r : List ReplicaTurn) (shown : Shown) (b : Bool) → has_copy (known_by r).held ≡ b → is_refused (Shows shown) r ≡ false →
-    (known_by (Shows shown ∷ r)).held ≡ cond b (known_by r).held (held_after (known_by r).held (taken (known_by r).held shown))
+    (known_by (Shows shown ∷ r)).held ≡ cond b (known_by r).held (after_outcome (known_by r).held (taken (known_by r).held shown))
 reply-held r shown b copy free =
     loads-are-of-turns (Shows shown ∷ r) ∙ (λ i. held_by (cond (copy i || free i) (load_turns r) (LoadShows shown ∷ load_turns r))) ∙ by b
   where
@@ -201,12 +197,12 @@ reply-held r shown b copy free =
     held = sym (loads-are-of-turns r)
 
     by : (c : Bool) → held_by (cond (c || false) (load_turns r) (LoadShows shown ∷ load_turns r))
-        ≡ cond c (known_by r).held (held_after (known_by r).held (taken (known_by r).held shown))
+        ≡ cond c (known_by r).held (after_outcome (known_by r).held (taken (known_by r).held shown))
     by true = held
-    by false = ap (λ (h : Held). held_after h (taken h shown)) held
+    by false = ap (λ (h : Held). after_outcome h (taken h shown)) held
 
 -- and after notes: a first note that drops the copy begins a load, others leave it
-notes-held : (r : List ReplicaTurn) (drop : Bool) → held_by (cond drop (LoadBegins ∷ load_turns r) (load_turns r)) ≡ cond drop Begun (known_by r).held
+notes-held : (r : List ReplicaTurn) (drop : Bool) → held_by (cond drop (LoadBegins ∷ load_turns r) (load_turns r)) ≡ cond drop (Loads Begun) (known_by r).held
 notes-held r true = refl
 notes-held r false = sym (loads-are-of-turns r)
 
@@ -226,7 +222,7 @@ read-bound first p kept n bound (Some ask) asks =
     known : Known
     known = known_by p.replica
 
-    ok : (now : Known) × (with_reply known known.held (reply_to m ask) ≡ Knows now)
+    ok : (now : Known) × (with_reply known known.held (reply_to m ask) ≡ Goes now)
     ok = read-taken first p kept ask asks
 
     free : is_refused (Shows (reply_to m ask)) p.replica ≡ false
@@ -257,15 +253,15 @@ read-bound first p kept n bound (Some ask) asks =
 -- ---- notes that are taken
 
 taken-bound : (m : Moment) (r : List ReplicaTurn) (turn : ReplicaTurn) (n : ℕ) → begins_load turn ≡ false →
-    (known_by (turn ∷ r)).held ≡ cond (is_drop (position (known_by r)) (taken_by turn r)) Begun (known_by r).held → Bound m r n →
+    (known_by (turn ∷ r)).held ≡ cond (is_drop (position (known_by r)) (taken_by turn r)) (Loads Begun) (known_by r).held → Bound m r n →
     Bound m (turn ∷ r) (cond (is_drop (position (known_by r)) (taken_by turn r)) 0 n)
 taken-bound m r turn n begins held bound = by (is_drop (position (known_by r)) (taken_by turn r)) refl
   where
     by : (b : Bool) → is_drop (position (known_by r)) (taken_by turn r) ≡ b → Bound m (turn ∷ r) (cond b 0 n)
-    by true e = begun-bound m (turn ∷ r) (held ∙ ap (λ b. cond b Begun (known_by r).held) e)
+    by true e = begun-bound m (turn ∷ r) (held ∙ ap (λ b. cond b (Loads Begun) (known_by r).held) e)
     by false e = same-bound m r (turn ∷ r) n
         ((λ i. begins i || is_drop (position (known_by r)) (taken_by turn r) || load_was_begun r) ∙ ap (λ b. b || load_was_begun r) e)
-        (held ∙ ap (λ b. cond b Begun (known_by r).held) e) bound
+        (held ∙ ap (λ b. cond b (Loads Begun) (known_by r).held) e) bound
 
 reply-bound : (first : ℕ) (m : Moment) (p : Played) → Kept first p → (n : ℕ) → Bound m p.replica n → (o : HeldReply) → p.reply ≡ o →
     Bound m (after_reply o p.replica) (cond (reply_drops o p.replica) 0 n)
@@ -284,7 +280,7 @@ note-bound : (first : ℕ) (m : Moment) (p : Played) → Kept first p → (n num
 note-bound first m p kept n number bound None e = bound
 note-bound first m p kept n number bound (Some note) e = by (is_turned_away (arrival note p.replica)) refl
   where
-    ok : (now : Known) × (with_notes (taken_by (Delivers note) p.replica) (known_by p.replica) ≡ Knows now)
+    ok : (now : Known) × (with_notes (taken_by (Delivers note) p.replica) (known_by p.replica) ≡ Goes now)
     ok = note-taken first p kept number note e
 
     refused : (b : Bool) → is_turned_away (arrival note p.replica) ≡ b → is_refused (Delivers note) p.replica ≡ b || false
@@ -389,12 +385,7 @@ behind-no_copy r behind = by (missing r) behind
 
     held-on : (held : Held) → says_without_gap (known_by r) held ≡ BehindLoad → has_copy held ≡ false
     held-on Idle e = refl
-    held-on Begun e = refl
-    held-on HasToken e = refl
-    held-on (HasNumber number) e = refl
-    held-on (HasRoot number root) e = refl
-    held-on (Lists number listing) e = refl
-    held-on (HasPage number listing page) e = refl
+    held-on (Loads stage) e = refl
     held-on (HasCopy number rows) e = absurd (copy-on (least_unread (known_by r).happenings) e)
 
     by : (o : Option ℕ) → says_of o (known_by r) ≡ BehindLoad → has_copy (known_by r).held ≡ false

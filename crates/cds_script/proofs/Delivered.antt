@@ -17,7 +17,7 @@ use Rattle.cds_commands.specs.Commands.{Command, Renews, Ends, Ticks, scans_of}
 use Rattle.cds_commands.specs.Notes.{Note, has_room, notes_of, sent_by}
 use Rattle.cds_commands.specs.Subscriptions.{granted}
 use Rattle.cds_follow.specs.Inbox.{ReplicaTurn, Begins, Shows, Requests, Accepts, Delivers, Arrival, IsUnknown, IsRepeat, IsTooMany, IsEarly, IsHeld, IsNext, is_out, accepted, is_accepted, is_early, early_notes, received, has_seq, next_seq, held_notes, held_limit, is_repeat, is_next, taken_by, arrival}
-use Rattle.cds_follow.specs.Follow.{Known, Knows, with_notes, is_no, is_turned_away, is_refused, and_turn, known_by, next_ask}
+use Rattle.cds_follow.specs.Follow.{Known, with_notes, is_turned_away, is_refused, and_turn, known_by, next_ask}
 use Rattle.cds_follow.specs.Given.{moment_after, asked_at}
 use Rattle.cds_commands.proofs.Among.{Among, among-contained, among-all, among-filter}
 use Rattle.cds_commands.proofs.Sent.{Sound, all-sound}
@@ -30,6 +30,7 @@ use Rattle.cds_script.proofs.Stood.{note-taken, name-taken, may-before_ask, answ
 use Rattle.cds_script.specs.declared.reply.HeldReply.{HeldReply}
 use Rattle.cds_script.specs.declared.reply.HeldReply.TheVariants.{NoReply, Named, Refusal}
 use Rattle.cds_script.specs.Script.{grant_at, granted_seconds}
+use Rattle.cds_load.specs.Outcome.{Goes, is_no}
 
 -- ---- the note of a number
 
@@ -233,7 +234,7 @@ delivered-got first number p note kept named sent free = by (is_turned_away (arr
     r : List ReplicaTurn
     r = p.replica
 
-    ok : (now : Known) × (with_notes (taken_by (Delivers note) r) (known_by r) ≡ Knows now)
+    ok : (now : Known) × (with_notes (taken_by (Delivers note) r) (known_by r) ≡ Goes now)
     ok = note-taken first p kept number note sent
 
     Then : List ReplicaTurn → Type 0

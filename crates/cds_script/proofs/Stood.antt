@@ -18,7 +18,7 @@ use Rattle.cds_commands.specs.Notes.{Note, notes_of, alive_names}
 use Rattle.cds_commands.specs.Subscriptions.{granted}
 use Rattle.cds_commands.specs.Releases.{released_to, releases_of}
 use Rattle.cds_follow.specs.Inbox.{ReplicaTurn, Accepts, Delivers, is_out, accepted, received, has_seq, taken_by}
-use Rattle.cds_follow.specs.Follow.{Known, Knows, known_by, next_ask, with_reply, with_notes, says, copied}
+use Rattle.cds_follow.specs.Follow.{Known, known_by, next_ask, with_reply, with_notes, says, copied}
 use Rattle.cds_follow.specs.Given.{moment_after, Asks, Granted, Gets, asked_at, given_by, latest_length}
 use Rattle.cds_follow.specs.HonestLaws.{load_was_begun}
 use Rattle.cds_follow.specs.declared.says.Says.{Says}
@@ -32,6 +32,7 @@ use Rattle.cds_script.specs.Report.{first_of, clock_of, sent_note, lives, Played
 use Rattle.cds_script.specs.Played.{AllStand, MayBe}
 use Rattle.cds_script.proofs.Given.{Waits, Kept, oldest-all, sent-contained, turns-kept}
 use Rattle.cds_script.specs.declared.reply.HeldReply.TheVariants.{Named}
+use Rattle.cds_load.specs.Outcome.{Goes}
 
 -- ---- older turns may be
 
@@ -67,21 +68,21 @@ module _ (first : ℕ) (p : Played) (kept : Kept first p) where
   n = length p.commands
 
   pub read-taken : (ask : Asked) → next_ask (known_by r) ≡ Some ask →
-      (now : Known) × (with_reply (known_by r) (known_by r).held (reply_to (moment_after script_token first p.commands) ask) ≡ Knows now)
+      (now : Known) × (with_reply (known_by r) (known_by r).held (reply_to (moment_after script_token first p.commands) ask) ≡ Goes now)
   read-taken ask asks =
       let t = entry-taken script_token first p.commands kept.accepted (Asks n) kept.entries (kept.within, tt, kept.given) ask
       (ap (λ turns. next_ask (known_by turns)) (sym kept.are) ∙ asks) in
       (t.0, (λ i. with_reply (known_by (kept.are i)) (known_by (kept.are i)).held (reply_to (moment_after script_token first (sym (oldest-all p.commands) i)) ask)) ∙ t.1)
 
   pub note-taken : (number : ℕ) (note : Note) → sent_note number (notes_of first p.commands) ≡ Some note →
-      (now : Known) × (with_notes (taken_by (Delivers note) r) (known_by r) ≡ Knows now)
+      (now : Known) × (with_notes (taken_by (Delivers note) r) (known_by r) ≡ Goes now)
   note-taken number note sent =
       let here = subst (λ (cs : List Command). Contains (notes_of first cs) note) (sym (oldest-all p.commands)) (sent-contained number (notes_of first p.commands) note sent) in
       let t = entry-taken script_token first p.commands kept.accepted (Gets n note) kept.entries (kept.within, here, kept.given) in
       (t.0, (λ i. with_notes (taken_by (Delivers note) (kept.are i)) (known_by (kept.are i))) ∙ t.1)
 
 pub name-taken : (first : ℕ) (p : Played) (kept : Kept first p) (name : ℕ) → p.reply ≡ Named name →
-    (now : Known) × (with_notes (taken_by (Accepts name) p.replica) (known_by p.replica) ≡ Knows now)
+    (now : Known) × (with_notes (taken_by (Accepts name) p.replica) (known_by p.replica) ≡ Goes now)
 name-taken first p kept name held =
     let waits : Waits p.commands kept.entries p.replica (Named name) = subst (Waits p.commands kept.entries p.replica) held kept.waits in
     let t = entry-taken script_token first p.commands kept.accepted (Granted (length p.commands) name) kept.entries (

@@ -15,7 +15,7 @@ use Rattle.cds_commands.specs.Notes.{Note, alive_names, notes_of}
 use Rattle.cds_commands.specs.Subscriptions.{subscription_limit}
 use Rattle.cds_commands.specs.Releases.{released_to, releases_of}
 use Rattle.cds_follow.specs.Inbox.{Accepts, Delivers, accepted, received, has_seq, taken_by}
-use Rattle.cds_follow.specs.Follow.{Known, Knows, known_by, next_ask, with_reply, with_notes, says, copied}
+use Rattle.cds_follow.specs.Follow.{Known, known_by, next_ask, with_reply, with_notes, says, copied}
 use Rattle.cds_follow.specs.Given.{Entry, moment_after, given_by, latest_length, IsGiven}
 use Rattle.cds_commands.specs.Commands.{AreAccepted}
 use Rattle.cds_follow.specs.HonestLaws.{load_was_begun}
@@ -25,6 +25,7 @@ use Rattle.cds_script.specs.declared.turn.ScriptTurn.{ScriptTurn}
 use Rattle.cds_script.specs.declared.turn.ScriptTurn.TheVariants.{Ask}
 use Rattle.cds_script.specs.Report.{script_token, first_of, clock_of, sent_note, lives, played, history_of, written_by}
 use Rattle.cds_script.specs.Played.{MayBe}
+use Rattle.cds_load.specs.Outcome.{Goes}
 
 -- a number is the end of some of a history's scans, the oldest ones, and rows are the catalog after these
 pub record IsScanEnd (history : History) (number : ℕ) (rows : List ObjectRow) : Type 0 where
@@ -51,11 +52,11 @@ scripts_are_given = (turns : List ScriptTurn) → MayBe turns → AreGiven turns
 pub record AreTaken (turns : List ScriptTurn) : Type 0 where
   pub reads : (ask : Asked) → next_ask (known_by (played turns).replica) ≡ Some ask →
       (now : Known) × (with_reply (known_by (played turns).replica) (known_by (played turns).replica).held
-      (reply_to (moment_after script_token (first_of turns) (played turns).commands) ask) ≡ Knows now)
+      (reply_to (moment_after script_token (first_of turns) (played turns).commands) ask) ≡ Goes now)
   pub names : (name : ℕ) → (played turns).reply ≡ Named name →
-      (now : Known) × (with_notes (taken_by (Accepts name) (played turns).replica) (known_by (played turns).replica) ≡ Knows now)
+      (now : Known) × (with_notes (taken_by (Accepts name) (played turns).replica) (known_by (played turns).replica) ≡ Goes now)
   pub notes : (number : ℕ) (note : Note) → sent_note number (notes_of (first_of turns) (played turns).commands) ≡ Some note →
-      (now : Known) × (with_notes (taken_by (Delivers note) (played turns).replica) (known_by (played turns).replica) ≡ Knows now)
+      (now : Known) × (with_notes (taken_by (Delivers note) (played turns).replica) (known_by (played turns).replica) ≡ Goes now)
 
 abbrev pub nothing_is_refused : Type 0
 nothing_is_refused = (turns : List ScriptTurn) → MayBe turns → AreTaken turns

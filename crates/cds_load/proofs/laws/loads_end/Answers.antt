@@ -1,5 +1,5 @@
-use Rattle.cds_load.proofs.Servers.{loads-end}
+use Rattle.cds_load.proofs.Ends.{load-ends}
 use Rattle.cds_load.proofs.laws.loads_end.Goals as goal
 
 pub returns : goal.returns
-returns c = loads-end
+returns c = load-ends

@@ -1,9 +1,10 @@
 use Rattle.std.proofs.Common.{List, None, Some, ap, sym, refl, ◌∙◌}
 use Rattle.cds_replica.specs.CopyState.{KeptRow, KeptCopy, bare_rows}
-use Rattle.cds_replica.specs.CopySteps.{rows_changed_by, count_from, Counts}
+use Rattle.cds_replica.specs.CopySteps.{rows_changed_by, count_from}
 use Rattle.cds_replica.specs.Outlines.{outlines_of}
 use Rattle.cds_replica.proofs.KeptLoops.{decided, count-torn, count-counts, no-root}
 use Rattle.cds_replica.proofs.copy.CatalogCopy.count.Goals as goal
+use Rattle.cds_load.specs.Outcome.{Goes}
 
 pub returns-in-Some-2 : goal.returns-in-Some-2
 returns-in-Some-2 c =
@@ -29,5 +30,5 @@ returns c =
     (c.in_ok-outlines.ensures ∙ ap outlines_of c.as_slice.ensures.value) c.in_ok-id.ensures c.in-None-2.is in
     ap (λ (s : KeptCopy). count_from s c.args.at c.args.events.now) (sym c.self.view_is)
     ∙ count-counts copy c.args.at c.args.events.now (sym c.leap.ensures ∙ c.in-None.is) first
-    ∙ ap (λ (rows : List KeptRow). Counts (record { rows = rows; read_up_to = c.self.inside.read_up_to }))
+    ∙ ap (λ (rows : List KeptRow). Goes (record { rows = rows; read_up_to = c.self.inside.read_up_to }))
     (ap (λ (rows : List KeptRow). rows_changed_by rows c.args.events.now) (sym c.reserve.ensures.items) ∙ sym c.change_all.ensures)
