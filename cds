@@ -245,9 +245,26 @@ end_with() {
   exit "$1"
 }
 
-# Says what a server lacks to be found by other machines. The words are its address and the process that joined the group.
+# Says whether a program of this machine has joined the group.
+is_joined() {
+  grep -q '^[[:space:]]*FAFFFFEF' /proc/net/igmp 2>/dev/null
+}
+
+# Waits until the group is joined, or the process that joins it ended, or 10 s have passed.
+wait_for_group() {
+  local round
+  for ((round = 0; round < 100; round++)); do
+    is_joined && return
+    kill -0 "$1" 2>/dev/null || return
+    sleep 0.1
+  done
+}
+
+# Says what a server lacks to be found by other machines. The words are its address and the process that joins the group.
 tell_lacks() {
-  if ! kill -0 "$2" 2>/dev/null; then
+  wait_for_group "$2"
+  if ! is_joined; then
+    kill "$2" 2>/dev/null
     wait "$2"
     if [ $? -eq 127 ]; then
       tell "neither python3 nor perl is there, which join the group $group: players find the server only if another program of this machine has joined it"

@@ -2,6 +2,7 @@
 `announce` and `./cds share` there: searches by multicast, and a search of a far sender. Writes a line for each case that does not
 come as it must, and ends with 0 if all do."""
 
+import contextlib
 import os
 import re
 import shutil
@@ -58,16 +59,32 @@ def free_port():
         return one.getsockname()[1]
 
 
-def started(program, port, count):
+@contextlib.contextmanager
+def running(words, **options):
+    """A process, which is ended when the block is left, however that comes."""
+    process = subprocess.Popen(words, **options)
+    try:
+        yield process
+    finally:
+        process.terminate()
+        try:
+            process.wait(10)
+        except subprocess.TimeoutExpired:
+            process.kill()
+            process.wait()
+
+
+@contextlib.contextmanager
+def announcing(program, port, count):
     """The program, announcing, when it has the port."""
     words = [program, "announce", str(port), LOCATION, str(count), UUID]
-    process = subprocess.Popen(words, stdout=subprocess.PIPE)
-    for _ in range(200):
-        with open("/proc/net/udp", encoding="ascii") as table:
-            if any(line.split()[1].endswith(f":{port:04X}") for line in list(table)[1:]):
-                break
-        time.sleep(0.02)
-    return process
+    with running(words, stdout=subprocess.PIPE) as process:
+        for _ in range(200):
+            with open("/proc/net/udp", encoding="ascii") as table:
+                if any(line.split()[1].endswith(f":{port:04X}") for line in list(table)[1:]):
+                    break
+            time.sleep(0.02)
+        yield process
 
 
 def answers(client, datagram, to, many):
@@ -89,8 +106,7 @@ def on_loopback(program):
     """Datagrams of each kind, and the end after the last one."""
     port = free_port()
     to = ("127.0.0.1", port)
-    process = started(program, port, 7)
-    with socket.socket(socket.AF_INET, socket.SOCK_DGRAM) as client:
+    with announcing(program, port, 7) as process, socket.socket(socket.AF_INET, socket.SOCK_DGRAM) as client:
         check("the root device", [reply(ALL[0])], answers(client, search(ALL[0]), to, 1))
         check("version 5", [], answers(client, search(ALL[3][:-1] + "5"), to, 0))
         check("NOTIFY", [], answers(client, b"NOTIFY * HTTP/1.1\r\n\r\n", to, 0))
@@ -98,8 +114,8 @@ def on_loopback(program):
         check("65,507 bytes", [], answers(client, b"x" * 65507, to, 0))
         check("a search with bytes after it", [reply(ALL[1])], answers(client, search(ALL[1].upper().replace("UUID", "uuid")) + b"x" * 60000, to, 1))
         check("all", [reply(one) for one in ALL], answers(client, search("ssdp:all"), to, 4))
-    check("what is written", b"", process.communicate(timeout=10)[0])
-    check("the status", 0, process.returncode)
+        check("what is written", b"", process.communicate(timeout=10)[0])
+        check("the status", 0, process.returncode)
 
 
 def flood(to):
@@ -113,17 +129,14 @@ def after_a_flood(program):
     """A search is answered after 10,000 others."""
     port = free_port()
     to = ("127.0.0.1", port)
-    process = started(program, port, 4294967295)
-    flood(to)
-    with socket.socket(socket.AF_INET, socket.SOCK_DGRAM) as client:
+    with announcing(program, port, 4294967295), socket.socket(socket.AF_INET, socket.SOCK_DGRAM) as client:
+        flood(to)
         came = []
         for _ in range(20):
             came = answers(client, search(ALL[0]), to, 1)
             if came:
                 break
         check("a search after a flood", reply(ALL[0]), came[0] if came else None)
-    process.kill()
-    process.wait()
 
 
 def refused(program):
@@ -164,7 +177,12 @@ def from_other_side(other, own, to, datagram, many):
 
 def in_a_network(program):
     """In a namespace of its own, beside another one: searches by multicast, and a far sender."""
-    other = subprocess.Popen(["unshare", "-n", "sleep", "60"])
+    with running(["unshare", "-n", "sleep", "60"]) as other:
+        beside(program, other)
+
+
+def beside(program, other):
+    """Joins both namespaces, and searches from the other one."""
     time.sleep(0.3)
     run("ip", "link", "set", "lo", "up")
     run("ip", "link", "add", "near", "type", "veth", "peer", "name", "far")
@@ -177,21 +195,17 @@ def in_a_network(program):
     run(*inside, "addr", "add", "8.8.8.8/24", "dev", "far")
     run(*inside, "link", "set", "far", "up")
     time.sleep(0.3)
-    process = started(program, 1900, 4294967295)
-    with socket.socket(socket.AF_INET, socket.SOCK_DGRAM) as member:
+    with announcing(program, 1900, 4294967295), socket.socket(socket.AF_INET, socket.SOCK_DGRAM) as member:
         member.setsockopt(socket.IPPROTO_IP, socket.IP_ADD_MEMBERSHIP, socket.inet_aton(GROUP) + socket.inet_aton("10.9.0.1"))
         all_replies = [reply(one) for one in ALL]
         check("a search by multicast", all_replies, from_other_side(other, "10.9.0.2", GROUP, search("ssdp:all"), 4))
         check("a search of a far sender", [], from_other_side(other, "8.8.8.8", "10.9.0.1", search("ssdp:all"), 0))
         check("a search to the machine", all_replies, from_other_side(other, "10.9.0.2", "10.9.0.1", search("ssdp:all"), 4))
-    process.kill()
-    process.wait()
     launcher = os.path.join(os.path.dirname(os.path.abspath(__file__)), "..", "cds")
     if os.path.realpath(program) == os.path.realpath(os.path.join(os.path.dirname(launcher), "crates/cds_cli/out/cds_cli")):
         shared(launcher, other)
     else:
         print("discovery: the program is not that of the launcher; the case of a shared folder is skipped")
-    other.kill()
 
 
 def described_name(port):
@@ -206,28 +220,28 @@ def described_name(port):
 
 def shared(launcher, other):
     """A folder that is shared: what it says, what a search by multicast finds, and that all ends with it."""
-    folder = tempfile.mkdtemp()
     port = 8299
-    words = [launcher, "share", folder, str(port)]
-    process = subprocess.Popen(words, stdout=subprocess.PIPE, start_new_session=True)
-    says = process.stdout.readline().decode()
-    check("where a folder is shared", f"{folder} is served at port {port} of 10.9.0.1 until Ctrl-C\n", says)
-    check("what to open", True, process.stdout.readline().decode().endswith("open the server cds\n"))
-    if says:
-        location, uuid = f"http://10.9.0.1:{port}/device.xml", described_name(port)
-        wanted = [reply(target.replace(UUID, uuid or ""), location, uuid) for target in ALL]
-        check("a search for what is shared", wanted, from_other_side(other, "10.9.0.2", GROUP, search("ssdp:all"), 4))
-        flood(("127.0.0.1", 1900))
-        check("a description beside a flood", uuid, described_name(port))
-    os.killpg(process.pid, signal.SIGINT)
-    check("the status of an interrupt", 130, process.wait(10))
-    left = subprocess.run(["pgrep", "-g", str(process.pid)], stdout=subprocess.PIPE, check=False).stdout
-    check("what is left of it", b"", left)
-    os.rmdir(folder)
+    with tempfile.TemporaryDirectory() as folder:
+        words = [launcher, "share", folder, str(port)]
+        with running(words, stdout=subprocess.PIPE, start_new_session=True) as process:
+            says = process.stdout.readline().decode()
+            check("where a folder is shared", f"{folder} is served at port {port} of 10.9.0.1 until Ctrl-C\n", says)
+            check("what to open", True, process.stdout.readline().decode().endswith("open the server cds\n"))
+            if says:
+                location, uuid = f"http://10.9.0.1:{port}/device.xml", described_name(port)
+                wanted = [reply(target.replace(UUID, uuid or ""), location, uuid) for target in ALL]
+                check("a search for what is shared", wanted, from_other_side(other, "10.9.0.2", GROUP, search("ssdp:all"), 4))
+                flood(("127.0.0.1", 1900))
+                check("a description beside a flood", uuid, described_name(port))
+            os.killpg(process.pid, signal.SIGINT)
+            check("the status of an interrupt", 130, process.wait(10))
+        left = subprocess.run(["pgrep", "-g", str(process.pid)], stdout=subprocess.PIPE, check=False).stdout
+        check("what is left of it", b"", left)
 
 
 def main():
-    """Runs all cases, the last one in a namespace of its own if that can be made."""
+    """Runs all cases, the last one in a namespace of its own if that can be made. Ends what it started if it is ended."""
+    signal.signal(signal.SIGTERM, lambda *_: sys.exit(143))
     if sys.argv[2:] == ["--inside"]:
         in_a_network(sys.argv[1])
         return
@@ -238,7 +252,8 @@ def main():
     tools = all(shutil.which(tool) for tool in ("unshare", "nsenter", "ip", "pgrep"))
     if tools and subprocess.run(["unshare", "-n", "true"], stderr=subprocess.DEVNULL, check=False).returncode == 0:
         words = ["unshare", "-n", sys.executable, "-B", os.path.abspath(__file__), program, "--inside"]
-        check("the network of two namespaces", 0, subprocess.run(words, check=False).returncode)
+        with running(words) as inside:
+            check("the network of two namespaces", 0, inside.wait())
     else:
         print("discovery: no namespaces can be made; the cases of a network are skipped")
 

@@ -3,7 +3,8 @@
 # - throughput of a whole file to one client, and the processor time of the server for it, against `nginx` without sendfile and
 #   against `minidlnad`, where they are there (goal: at least 0.8 of nginx's throughput, at most 1.5 times its processor time);
 # - how much memory the server takes for each of two players (goal: below 256 KiB);
-# - the time of a small Browse beside two players (goal: at most 1.2 times its time alone).
+# - the time of a small Browse beside two players of 2 MiB a second (goal: at most 1.2 times its time alone). Each player is a process
+#   of its own: as threads of the client they would take its processor from it, and not the server's.
 # bench/media.sh [MEBIBYTES]. Needs bash, python3, and the program where it is built. CDS may name another program.
 set -eu
 top=$(cd "$(dirname "$0")/.." && pwd)
@@ -12,7 +13,7 @@ work=$(mktemp -d)
 trap 'rm -rf "$work"' EXIT
 
 python3 -B - "$work" "$program" "${1:-500}" <<'PY'
-import html, http.client, os, re, shutil, socket, statistics, struct, subprocess, sys, threading, time
+import html, http.client, multiprocessing, os, re, shutil, socket, statistics, struct, subprocess, sys, time
 work, program, size = sys.argv[1], sys.argv[2], int(sys.argv[3]) << 20
 TICK = os.sysconf("SC_CLK_TCK")
 RUNS = 7
@@ -90,19 +91,18 @@ class Server:
             return int(re.search(r"VmRSS:\s+(\d+)", file.read()).group(1))
 
     # Takes a file, at this many bytes a second if it is not None. Returns how many came, with the head.
-    def take(self, target, rate=None, stop=None):
+    def take(self, target, rate=None):
         came, buffer = 0, bytearray(1 << 18)
         with socket.create_connection(("127.0.0.1", self.port)) as peer:
             peer.sendall(f"GET {target} HTTP/1.1\r\nHOST: 127.0.0.1:{self.port}\r\nCONNECTION: close\r\n\r\n".encode())
             begun = time.perf_counter()
-            while not (stop and stop.is_set()):
+            while True:
                 count = peer.recv_into(buffer)
                 if count == 0:
                     return came
                 came += count
                 if rate:
                     time.sleep(max(0, begun + came / rate - time.perf_counter()))
-        return came
 
     # MiB a second and processor seconds for the whole file.
     def pace(self, target):
@@ -182,15 +182,14 @@ for name, (server, _) in peers.items():
 server, target = peers["cds"]
 alone = waits(server)
 idle = server.memory()
-stop = threading.Event()
-players = [threading.Thread(target=server.take, args=(target, 2 << 20, stop)) for _ in range(2)]
+players = [multiprocessing.Process(target=server.take, args=(target, 2 << 20)) for _ in range(2)]
 for player in players:
     player.start()
 time.sleep(2)
 each = (server.memory() - idle) / 2
 beside = waits(server)
-stop.set()
 for player in players:
+    player.terminate()
     player.join()
 print(f"memory for each of two players: {each:.0f} KiB (goal: below 256)")
 print(f"a Browse: {alone:.2f} ms alone, {beside:.2f} ms beside two players of 2 MiB a second, {beside / alone:.2f} times that (goal: at most 1.2)")

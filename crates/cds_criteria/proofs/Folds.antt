@@ -42,11 +42,6 @@ dot_after (a ∷ value) (b ∷ text) =
     dot_by (nat_eq (to_ascii_lowercase a) (to_ascii_lowercase b)) (begins_with (folded value) (folded text)) (begins_with (folded value ++ 46 ∷ []) (folded text)) (first_is 46 (folded (drop (length value) text)))
     (dot_after value text)
 
--- a text that another begins with has it as a part
-pub part_here : (part text : List ℕ) → begins_with part text ≡ true → has_part part text ≡ true
-part_here part [] e = e
-part_here part (b ∷ text) e = ap (λ v. v || has_part part text) e
-
 -- every text has the empty text as a part
 nothing_here : (text : List ℕ) → has_part [] text ≡ true
 nothing_here [] = refl

@@ -52,28 +52,16 @@ fn begins_with(part: &[u8], text: &[u8]) -> bool
     true
 }
 
-/// Returns whether a text begins with a byte in lower case and then another text.
-fn begins_here(first: u8, others: &[u8], text: &[u8]) -> bool
-    ensures { result ≡ begins_with (first ∷ folded others.now) (folded text.now) }
-{
-    match text {
-        [] => false,
-        [byte, after @ ..] => first == byte.to_ascii_lowercase() && begins_with(others, after),
-    }
-}
-
 /// Returns whether a text has a byte in lower case and then another text as a part. It looks further only where the byte stands.
 fn has_after(first: u8, others: &[u8], text: &[u8]) -> bool
     ensures { result ≡ has_part (first ∷ folded others.now) (folded text.now) }
 {
-    let mut rest = text;
-    while !rest.is_empty() {
-        if begins_here(first, others, rest) {
+    for (at, byte) in text.iter().enumerate() {
+        if byte.to_ascii_lowercase() == first && begins_with(others, text.split_at(at + 1).1) {
             return true;
         }
-        rest = rest.split_at(1).1;
     }
-    begins_here(first, others, rest)
+    false
 }
 
 /// Returns whether a text has another as a part.

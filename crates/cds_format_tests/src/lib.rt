@@ -1,10 +1,8 @@
 //! Tests alone, of what rows of data cannot say of texts, files, documents and the lock: memory that runs out, reads
 //! that fail, a slow source, doors and threads. Also tests of messages about events, and of the adapters over the system:
-//! its streams, words, folders, clock, network and threads. And tables of search criteria and sort criteria.
+//! its streams, words, folders, clock, network and threads.
 #![tactic(auto)]
 
-#[cfg(test)]
-mod criteria_tests;
 #[cfg(test)]
 mod datagram_tests;
 #[cfg(test)]

@@ -20,6 +20,8 @@ pub mod WrittenTags
 pub mod Public
 pub mod Only
 pub mod SeenNames
+pub mod Unprefixed
+pub mod TagEnds
 pub mod PrefixPlaces
 pub mod DraftsForm
 pub mod Quiet

@@ -14,6 +14,7 @@ pub mod References
 pub mod Values
 pub mod Attributes
 pub mod Tags
+pub mod TagEnds
 pub mod Delimiters
 pub mod Root
 pub mod XmlDeclaration

@@ -1,9 +1,11 @@
 -- The names that were seen in a start tag: local names, each with its prefix or with its namespace and a hash of it.
-use Rattle.std.specs.Prelude.{◌≡◌, ◌==◌, ℕ, Bool, ◌&&◌, ◌||◌, List}
+use Rattle.std.specs.Prelude.{◌≡◌, ◌==◌, ℕ, Bool, not, ◌&&◌, ◌||◌, List}
 use Rattle.std.specs.List.{list_any}
 use Rattle.std.specs.Str.{bytes_eq}
 use Rattle.std.specs.BTreeSet.{BTreeSet}
 use denote.Ref.{Bor}
+use Rattle.cds_markup.specs.declared.tag.TagAttr.{TagAttr}
+use Rattle.cds_markup.specs.Namespaces.{is_empty, declares_prefix}
 
 -- The set has the local name first, since namespaces are long and mostly the same. The hash is a number for each text, 0 for all
 -- prefixes.
@@ -25,3 +27,7 @@ has_seen seen hash space local = is_among seen.keys hash space local
 abbrev pub Sees : BTreeSet SeenName → BTreeSet SeenName → ℕ → List ℕ → List ℕ → Type 0
 Sees old new hash space local =
     (h : ℕ) (s l : List ℕ) → has_seen new h s l ≡ ((is_hashed hash space h s && bytes_eq local l) || has_seen old h s l)
+
+-- An attribute of an element is in no namespace, unless it has a prefix.
+abbrev pub is_prefixed : TagAttr → Bool
+is_prefixed a = not (is_empty a.name.prefix) && not (declares_prefix a.name)

@@ -35,6 +35,7 @@ mod scope;
 mod sink;
 mod start_tag;
 mod tag;
+mod tag_end;
 mod token;
 mod utf8;
 mod values;

@@ -1,12 +1,13 @@
 //! A machine that reads a document byte by byte, and says what each byte completes.
 
-ghost use Rattle.std.specs.Prelude.{◌≡◌, ◌<◌, ◌==◌, ◌&&◌, [], Ok, Err, Some, None, IfOk};
+ghost use Rattle.std.specs.Prelude.{◌≡◌, true, ◌<◌, ◌==◌, ◌&&◌, [], Ok, Err, Some, None, IfOk};
 ghost use Rattle.cds_base.specs.Characters.{is_allowed};
 ghost use Rattle.cds_markup.specs.declared.tag.Open.{Open};
 ghost use Rattle.cds_markup.specs.declared.event.Event.TheVariants.{Start, Empty};
 ghost use Rattle.cds_markup.specs.Namespaces.{declarations, tag_says};
 ghost use Rattle.cds_markup.specs.Bytes.{is_deep, nothing_read, may_end, is_behind};
 ghost use Rattle.cds_markup.specs.Marks.{cuts_text, is_in_content};
+ghost use Rattle.cds_markup.specs.TagEnds.{ends_start};
 ghost use Rattle.cds_markup.specs.Reads.{reading_of, AsciiSo, ByteSo, TaggedSo, TakenSo, WholeSo, JudgedSo};
 
 use crate::error::MachineError;
@@ -194,12 +195,31 @@ impl Machine {
         }
     }
 
+    /// Ends a start tag with this character. Returns what the tag says.
+    #[tactic(auto, using(crate::proofs::TagEnds::tag_ends, crate::proofs::TagEnds::tag_breaks))]
+    #[inline(never)]
+    fn end_start(&mut self, alloc: Global, c: char) -> Result<Option<Event>, MachineError>
+        requires none { self.old.begun.items ≡ [] }
+        requires ends { ends_start self.old.mode c ≡ true }
+        ensures { WholeSo (reading_of self.old) c result (reading_of self.new) }
+    {
+        let tag = self.mode.end_start(alloc, c);
+        if c == '>' {
+            Ok(Some(self.start(alloc, tag)?))
+        } else {
+            Ok(Some(self.empty(alloc, tag)?))
+        }
+    }
+
     /// Takes a whole character.
     #[tactic(auto, using(crate::proofs::Decoded::whole_nothing, crate::proofs::Decoded::whole_token, crate::proofs::Decoded::whole_broken, crate::proofs::Decoded::whole_refused))]
     fn whole(&mut self, alloc: Global, c: char) -> Result<Option<Event>, MachineError>
         requires { self.old.begun.items ≡ [] }
         ensures { WholeSo (reading_of self.old) c result (reading_of self.new) }
     {
+        if self.mode.ends_start(c) {
+            return self.end_start(alloc, c);
+        }
         let opens = self.opens.as_slice();
         let Some(token) = self.mode.step(alloc, opens, c)? else {
             return Ok(None);

@@ -1,6 +1,6 @@
 //! The parts of documents that come in pieces.
 
-ghost use Rattle.std.specs.Prelude.{◌≡◌, ◌≤◌, ◌+◌, true, if◌then◌else◌, ℕ, List, [], length, Ok, Err, Some, None, IsOkAnd};
+ghost use Rattle.std.specs.Prelude.{◌≡◌, ◌≤◌, ◌+◌, true, if◌then◌else◌, ℕ, List, [], ◌∷◌, length, Ok, Err, Some, None, IsOkAnd};
 ghost use Rattle.cds_markup.specs.declared.error.MarkupError.TheVariants.{Failed};
 ghost use Rattle.cds_markup.specs.declared.part.Part.{Part};
 ghost use Rattle.cds_markup.specs.Taking.{Takes};
@@ -12,6 +12,7 @@ ghost use Rattle.cds_markup.specs.Feeding.{StandsFor, TakesPiece, TakesEnd};
 use crate::cursor::Cursor;
 use crate::event::Event;
 use crate::marks::{Marks, OpenText};
+use crate::plain::behind;
 use crate::{MarkupError, Part, PartSink};
 use cds_base::{INPUT_LIMIT, Mem};
 use std::alloc::Global;
@@ -126,9 +127,20 @@ impl Spot {
         }
     }
 
-    /// Passes over the `<` that the bytes begin with, or over the first characters of a literal text. These are white space
-    /// alone, or letters of which the first is not white space. No literal text is open before. Returns how many bytes it passed
-    /// over.
+    /// Passes over a `<`, which stands before these bytes. No literal text is open before.
+    fn pass_less(&mut self, rest: &[u8])
+        requires takes { takes_run (reading_of self.old.cursor.machine) ≡ true }
+        requires none { self.old.marks.text ≡ None }
+        requires room { self.old.cursor.at + length rest.now + 1 ≤ INPUT_LIMIT }
+        ensures { RunSo (telling_of self.old) (60 ∷ rest.now) (Ok 1) (telling_of self.new) }
+    {
+        self.marks.begin = self.cursor.at;
+        self.cursor.machine.mode.begin_less();
+        self.cursor.at += 1;
+    }
+
+    /// Passes over the first characters of a literal text. These are white space alone, or letters of which the first is not
+    /// white space. No literal text is open before. Returns how many bytes it passed over.
     #[inline(never)]
     fn begin_run(&mut self, alloc: Global, bytes: &[u8]) -> Result<usize, Mem>
         requires takes { takes_run (reading_of self.old.cursor.machine) ≡ true }
@@ -140,12 +152,6 @@ impl Spot {
         let Some((first, _behind)) = bytes.split_first() else {
             return Ok(0);
         };
-        if *first == b'<' {
-            self.marks.begin = at;
-            self.cursor.machine.mode.begin_less();
-            self.cursor.at += 1;
-            return Ok(1);
-        }
         let mut text = OpenText::before(alloc, at, *first);
         let count = text.run(bytes)?;
         if count > 0 {
@@ -162,6 +168,10 @@ impl Spot {
     {
         if self.cursor.machine.takes_run() {
             let Some(text) = &mut self.marks.text else {
+                if let Some(rest) = behind(bytes, b'<') {
+                    self.pass_less(rest);
+                    return Ok(1);
+                }
                 return self.begin_run(alloc, bytes);
             };
             let count = text.run(bytes)?;

@@ -37,11 +37,23 @@ fn section_step(
 }
 
 impl RootState {
-    /// Goes over to this state.
+    /// Returns whether the state surely holds no text.
+    fn is_bare(&self) -> bool {
+        matches!(
+            self,
+            RootState::Content(_) | RootState::Less | RootState::Slashed | RootState::EndTag(_)
+        )
+    }
+
+    /// Goes over to this state. One that holds no text is written over, which is faster than taking it out.
     pub fn go_to(&mut self, root_state: RootState)
         ensures { self.new ≡ root_state }
     {
-        drop(std::mem::replace(self, root_state));
+        if self.is_bare() {
+            *self = root_state;
+        } else {
+            drop(std::mem::replace(self, root_state));
+        }
     }
 
     /// Takes a literal character, or what begins at it.

@@ -178,8 +178,8 @@ impl RootState {
         ensures within { result ≤ length bytes.now }
         ensures ends { EndRuns opens.now n bytes.now result self.new }
     {
-        self.end_at(n);
         let Some((innermost, _outer)) = opens.split_first() else {
+            self.end_at(n);
             return 0;
         };
         let written = bytes.split_at(Plain::Written.run(bytes)).0;

@@ -1,10 +1,10 @@
 //! Names with their namespaces, and the rules of start tags (Namespaces in XML).
 
-ghost use Rattle.std.specs.Prelude.{◌≡◌, ◌∷◌, Some, [], not, IfOk, OnOk};
+ghost use Rattle.std.specs.Prelude.{◌≡◌, ◌∷◌, Some, [], true, false, not, IfOk, OnOk};
 ghost use Rattle.std.specs.List.{list_all, list_any};
 ghost use Rattle.cds_markup.specs.Namespaces.{declares_default, declares_prefix, is_declaration, declaration, declarations, is_sound, declared_in, space_of, in_space, attr_name, with_value, named_attrs, same_qname, same_name, no_attr_twice, no_name_twice, tag_says};
 ghost use Rattle.cds_markup.specs.Bytes.{scopes_in};
-ghost use Rattle.cds_markup.specs.NamesSeen.{has_seen, Sees};
+ghost use Rattle.cds_markup.specs.NamesSeen.{is_prefixed, has_seen, Sees};
 
 use crate::namespace::Namespace;
 use crate::prefixes::Scope;
@@ -43,6 +43,20 @@ fn is_declaration(attr: &TagAttr) -> bool
     ensures { result ≡ is_declaration attr.now }
 {
     declares_default(&attr.name) || declares_prefix(&attr.name)
+}
+
+/// Returns whether the attribute has a prefix and declares nothing. An element's other attributes are in no namespace.
+fn is_prefixed(attr: &TagAttr) -> bool
+    ensures { result ≡ is_prefixed attr.now }
+{
+    attr.name.prefix.len() != 0 && !declares_prefix(&attr.name)
+}
+
+/// Returns whether one of the attributes has a prefix and declares nothing.
+fn has_prefixed(attrs: &[TagAttr]) -> bool
+    ensures { result ≡ list_any is_prefixed attrs.now }
+{
+    attrs.iter().any(|attr| is_prefixed(attr))
 }
 
 /// Returns what the attribute declares.
@@ -200,10 +214,15 @@ fn many_names_differ(alloc: Global, attrs: &[Attr]) -> Result<bool, Mem>
     Ok(true)
 }
 
-/// Returns whether no name comes twice.
-fn no_name_twice(alloc: Global, attrs: &[Attr]) -> Result<bool, Mem>
+/// Returns whether no name comes twice. Unless a prefix is `used`, the names are in no namespace, and they are not compared once
+/// more, since no qualified name comes twice.
+fn no_name_twice(alloc: Global, used: bool, attrs: &[Attr]) -> Result<bool, Mem>
+    requires { used ≡ false → no_name_twice attrs.now ≡ true }
     ensures { IfOk result (λ found. found ≡ no_name_twice attrs.now) }
 {
+    if !used {
+        return Ok(true);
+    }
     if attrs.len() <= MOST_IN_PAIRS {
         Ok(few_names_differ(attrs))
     } else {
@@ -356,13 +375,14 @@ pub fn tag_says(
     if !are_sound(inner.as_slice()) || !no_attr_twice(alloc, attrs.as_slice())? {
         return Ok(None);
     }
+    let used = has_prefixed(attrs.as_slice());
     let Some(name) = name_in(alloc, opens, inner, prefix, local)? else {
         return Ok(None);
     };
     let Some(attrs) = named_attrs(alloc, opens, inner, attrs)? else {
         return Ok(None);
     };
-    if !no_name_twice(alloc, attrs.as_slice())? {
+    if !no_name_twice(alloc, used, attrs.as_slice())? {
         return Ok(None);
     }
     Ok(Some((name, attrs)))

@@ -14,7 +14,7 @@ use cds_base::{Mem, Sequence};
 use std::alloc::Global;
 
 /// Returns whether the character ends a start tag.
-fn ends_tag(c: char) -> bool
+pub fn ends_tag(c: char) -> bool
     ensures { result ≡ ends_tag c }
 {
     c == '/' || c == '>'

@@ -98,7 +98,10 @@ impl Mode {
     pub fn begin_less(&mut self)
         ensures { self.new ≡ Mode.Inside RootState.Less }
     {
-        self.go_to(Mode::Inside(RootState::Less));
+        match self {
+            Mode::Inside(root_state) => root_state.go_to(RootState::Less),
+            _ => self.go_to(Mode::Inside(RootState::Less)),
+        }
     }
 
     /// Takes the first character of the root's name.

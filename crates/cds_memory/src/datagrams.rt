@@ -82,6 +82,11 @@ impl MemDatagrams {
         self.replies.as_slice()
     }
 
+    /// Returns the replies that were sent, as `replies` does.
+    pub fn into_replies(self) -> Sequence<Bytes> {
+        self.replies
+    }
+
     /// Returns how many datagrams were given.
     pub fn given(&self) -> u64
         ensures { result ≡ self.now.given }

@@ -17,7 +17,7 @@ ghost use Rattle.cds_memory.specs.Memory.{next_fails};
 use crate::asking::{Ask, traced};
 use crate::streams::is_listed;
 use crate::{MemClock, MemDatagrams, MemDoor, MemFolder, MemLink, MemSpawner};
-use cds_base::{Numbers, Sequence};
+use cds_base::{Bytes, Numbers, Sequence};
 use cds_outside::{Datagrams, Outside, OutsideFault, Trace};
 use std::alloc::Global;
 use std::marker::{Model, Send};
@@ -69,6 +69,8 @@ pub struct MemOutside<R> {
     ended: Trace<MemFolder>,
     ended_links: Trace<MemLink>,
     ended_datagrams: Trace<MemDatagrams>,
+    /// The replies of the datagrams that came back last.
+    replies: Option<Sequence<Bytes>>,
     connections: u64,
     started: u64,
     given: u64,
@@ -146,6 +148,7 @@ impl<R> MemOutside<R> {
             ended: Trace::new(),
             ended_links: Trace::new(),
             ended_datagrams: Trace::new(),
+            replies: None,
             connections: 0,
             started: 0,
             given: 0,
@@ -181,6 +184,14 @@ impl<R> MemOutside<R> {
         ensures { result ≡ self.now.given }
     {
         self.given
+    }
+
+    /// Returns the replies of the datagrams that came back last, in their order.
+    pub fn replies(&self) -> &[Bytes] {
+        match &self.replies {
+            Some(replies) => replies.as_slice(),
+            None => &[],
+        }
     }
 
     /// Counts a call that asks for an object, and returns whether the object is given. `has_one` says whether there is one.
@@ -434,5 +445,6 @@ impl<R: Wait + Clone + Send + Drop + 'static> Outside for MemOutside<R> {
         let datagrams = self.ended_datagrams.push(datagrams);
         self.given = self.given.saturating_add(datagrams.given());
         self.faults = self.faults.saturating_add(datagrams.faults().min(1));
+        self.replies = Some(datagrams.into_replies());
     }
 }

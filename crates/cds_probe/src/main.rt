@@ -4,6 +4,7 @@
 #![tactic(auto)]
 
 mod asks;
+mod criteria;
 mod didl;
 mod discovery;
 mod events;

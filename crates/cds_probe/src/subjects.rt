@@ -3,7 +3,8 @@
 use crate::row::{Pieces, Row, keep};
 use crate::show::Out;
 use crate::{
-    asks, didl, discovery, events, files, markup, messages, objects, replies, requests, texts,
+    asks, criteria, didl, discovery, events, files, markup, messages, objects, replies, requests,
+    texts,
 };
 use cds_http::Side;
 use std::alloc::Global;
@@ -83,6 +84,8 @@ fn ask_of_control(alloc: Global, row: &Row, out: &mut Out) {
     match row.text(0) {
         "action" => requests::read(alloc, row, out),
         "action-write" | "answer" | "answer-write" => replies::of_action(alloc, row, out),
+        "criteria" => criteria::met(alloc, row, out),
+        "order" => criteria::ordered(alloc, row, out),
         "ask" => asks::written(alloc, row, out),
         "shown" => asks::shown(alloc, row, out),
         _ => ask_of_discovery(alloc, row, out),

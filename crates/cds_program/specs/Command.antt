@@ -130,7 +130,7 @@ help_text =
     ++ codes "  2  standard input, or the folder, could not be read\n"
     ++ codes "  3  standard output could not be written\n"
     ++ codes "  4  memory ran out\n"
-    ++ codes "  5  the words are no command\n"
+    ++ codes "  5  the words are no command, or LOCATION is no such address\n"
     ++ codes "  6  the input, or a line of a script, is too long, or the folder has too much\n"
     ++ codes "  7  the port, a connection, a datagram or a thread could not be had\n"
     ++ codes "  8  the input of check is no StateEvent\n"

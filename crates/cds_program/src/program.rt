@@ -62,7 +62,7 @@ Exit status:
   2  standard input, or the folder, could not be read
   3  standard output could not be written
   4  memory ran out
-  5  the words are no command
+  5  the words are no command, or LOCATION is no such address
   6  the input, or a line of a script, is too long, or the folder has too much
   7  the port, a connection, a datagram or a thread could not be had
   8  the input of check is no StateEvent

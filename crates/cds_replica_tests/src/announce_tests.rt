@@ -1,5 +1,4 @@
-//! Tests of the command that announces a device, over an outside in memory, in which a port or a datagram fails. What is replied to
-//! each datagram is shown by the rows of the probe.
+//! Tests of the command that announces a device, over an outside in memory, in which a port or a datagram fails.
 
 use crate::made::{MEMORY, calls, sink, source};
 use crate::program_tests::words_of;
@@ -25,6 +24,8 @@ struct AnnounceCase {
     /// How many datagrams were given, and how many faults the outside counts.
     given: u64,
     faults: u64,
+    /// The replies that are sent.
+    replies: &'static [&'static str],
     /// What is written.
     text: &'static str,
 }
@@ -39,6 +40,14 @@ const LOCATION: &str = "http://10.0.0.1:8200/device.xml";
 /// A UUID.
 const UUID: &str = "abcdef01-2345-6789-abcd-ef0123456789";
 
+/// The reply to the search of a device that has no UUID of its own.
+const FIRST_REPLY: &str =
+    "HTTP/1.1 200 OK\r\nCACHE-CONTROL: max-age=1800\r\nEXT:\r\nLOCATION: http://10.0.0.1:8200/device.xml\r\nSERVER: unix/1.0 UPnP/2.0 cds/1.0\r\nST: upnp:rootdevice\r\nUSN: uuid:00000000-0000-8000-8000-000000000000::upnp:rootdevice\r\nBOOTID.UPNP.ORG: 1\r\n\r\n";
+
+/// The reply to the search of the device with the UUID.
+const NAMED_REPLY: &str =
+    "HTTP/1.1 200 OK\r\nCACHE-CONTROL: max-age=1800\r\nEXT:\r\nLOCATION: http://10.0.0.1:8200/device.xml\r\nSERVER: unix/1.0 UPnP/2.0 cds/1.0\r\nST: upnp:rootdevice\r\nUSN: uuid:abcdef01-2345-6789-abcd-ef0123456789::upnp:rootdevice\r\nBOOTID.UPNP.ORG: 1\r\n\r\n";
+
 const CASES: [AnnounceCase; 10] = [
     AnnounceCase {
         name: "no datagram",
@@ -50,6 +59,7 @@ const CASES: [AnnounceCase; 10] = [
         status: 0,
         given: 0,
         faults: 0,
+        replies: &[],
         text: "",
     },
     AnnounceCase {
@@ -62,6 +72,7 @@ const CASES: [AnnounceCase; 10] = [
         status: 0,
         given: 2,
         faults: 0,
+        replies: &[FIRST_REPLY],
         text: "",
     },
     AnnounceCase {
@@ -74,6 +85,7 @@ const CASES: [AnnounceCase; 10] = [
         status: 0,
         given: 1,
         faults: 0,
+        replies: &[NAMED_REPLY],
         text: "",
     },
     AnnounceCase {
@@ -86,6 +98,7 @@ const CASES: [AnnounceCase; 10] = [
         status: 0,
         given: 2,
         faults: 1,
+        replies: &[FIRST_REPLY],
         text: "",
     },
     AnnounceCase {
@@ -98,6 +111,7 @@ const CASES: [AnnounceCase; 10] = [
         status: 7,
         given: 1,
         faults: 1,
+        replies: &[FIRST_REPLY],
         text: "",
     },
     AnnounceCase {
@@ -110,6 +124,7 @@ const CASES: [AnnounceCase; 10] = [
         status: 7,
         given: 0,
         faults: 1,
+        replies: &[],
         text: "",
     },
     AnnounceCase {
@@ -122,6 +137,7 @@ const CASES: [AnnounceCase; 10] = [
         status: 5,
         given: 0,
         faults: 0,
+        replies: &[],
         text: "usage: cds COMMAND\n",
     },
     AnnounceCase {
@@ -134,6 +150,7 @@ const CASES: [AnnounceCase; 10] = [
         status: 3,
         given: 0,
         faults: 0,
+        replies: &[],
         text: "",
     },
     AnnounceCase {
@@ -146,6 +163,7 @@ const CASES: [AnnounceCase; 10] = [
         status: 5,
         given: 0,
         faults: 0,
+        replies: &[],
         text: "usage: cds COMMAND\n",
     },
     AnnounceCase {
@@ -158,6 +176,7 @@ const CASES: [AnnounceCase; 10] = [
         status: 5,
         given: 0,
         faults: 0,
+        replies: &[],
         text: "usage: cds COMMAND\n",
     },
 ];
@@ -193,7 +212,16 @@ fn status_of<R: Runtime + Abort>(
     run(rt, alloc, &words, &mut source, sink, outside)
 }
 
-/// Checks a case: its status, the datagrams given, the faults that the outside counts, and what is written.
+/// Returns whether these replies were sent, and no others.
+fn are_sent(replies: &[Bytes], texts: &[&str]) -> bool {
+    replies.len() == texts.len()
+        && replies
+            .iter()
+            .zip(texts.iter())
+            .all(|(reply, text)| reply.as_slice() == text.as_bytes())
+}
+
+/// Checks a case: its status, the datagrams given, the faults that the outside counts, the replies, and what is written.
 fn check_case<R: Runtime + Abort>(rt: &R, alloc: Global, case: &AnnounceCase) {
     let mut outside = outside_of(rt, alloc, case);
     let mut sink = sink(rt, alloc, case.writes);
@@ -201,6 +229,7 @@ fn check_case<R: Runtime + Abort>(rt: &R, alloc: Global, case: &AnnounceCase) {
     let is_right = status == case.status
         && outside.given() == case.given
         && outside.faults() == case.faults
+        && are_sent(outside.replies(), case.replies)
         && sink.as_slice() == case.text.as_bytes();
     assert!(rt;
         is_right,

@@ -45,7 +45,7 @@ moderator-send = search (crosses, maps, sendable) depth 60
 server-send : IsSend Server.the_row
 server-send = search (store-send, book-send, moderator-send, crosses, maps, sendable) depth 60
 
-served-send : IsSend Served.the_row
+served-send : IsSend (Served.the_row Server.the_row)
 served-send = search (server-send, crosses, maps, sendable) depth 60
 
 -- ---- threads look at it
@@ -71,7 +71,7 @@ moderator-sync = search (crosses, maps, sendable) depth 60
 server-sync : IsSync Server.the_row
 server-sync = search (store-sync, book-sync, moderator-sync, crosses, maps, sendable) depth 60
 
-served-sync : IsSync Served.the_row
+served-sync : IsSync (Served.the_row Server.the_row)
 served-sync = search (server-sync, crosses, maps, sendable) depth 60
 
 -- ---- the jobs and their answers

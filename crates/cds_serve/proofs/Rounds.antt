@@ -15,9 +15,12 @@ use Rattle.cds_scan.specs.declared.scanned.Scan.{Scan}
 use Rattle.cds_store.specs.declared.error.ApplyError.{ApplyError}
 use Rattle.cds_store.specs.declared.error.ApplyError.TheVariants as apply_error
 use Rattle.cds_turn.specs.Line.{Extends}
+use Rattle.cds_server.specs.Serving.{Serving, StandsFor}
+use Rattle.cds_server.specs.Taking.{unfailing}
 use Rattle.cds_serve.specs.Counted.{counted}
 use Rattle.cds_serve.specs.Jobs.{AddsScans, AreAccepted, CanRefuse, EndsScanning, IsUnacceptable, ScansSoFar, StandAmong}
 use Rattle.cds_serve.specs.Scanned.{Across, Accepts, IsApplyRefusal, IsScanRefusal, MayGive, ScansOnce}
+use Rattle.cds_serve.specs.Served.{CanBeClosed}
 use Rattle.cds_turn.specs.Turn.{SeatTold}
 use Rattle.cds_serve.specs.declared.scanner.Counts.{Counts}
 use Rattle.cds_serve.specs.declared.scanning.ScanRefused.{ScanRefused}
@@ -197,7 +200,8 @@ raised-some n = le-min (omega arith) (omega arith)
 module _ (start : Start) (told : FolderTold) (first : List Command) (before now : ℕ) (old new : Across) (a b : Counts)
     (tree : new.folder.tree ≡ old.folder.tree) (contents : new.folder.contents ≡ old.folder.contents)
     (entries : old.folder.entry_faults ≤ new.folder.entry_faults) (files : old.folder.file_faults ≤ new.folder.file_faults)
-    (s : ScansSoFar start old.seat.passes old.seat.seats told old.folder first old.seat.seen a.accepted a.refused) where
+    (s : ScansSoFar start old.seat.passes old.seat.seats told old.folder first old.seat.seen a.accepted a.refused)
+    (Closes : List Command → Type 0) (unclosed : (found : List Command) → Closes found → ⊥) where
   same-cause : Extends new.seat.seen old.seat.seen → b.refused ≡ a.refused → 0 < b.refused → CanRefuse start told new.folder new.seat.seen
   same-cause more same some =
       still-refuses start told old.folder new.folder tree contents entries files s.tree s.contents s.entry_faults s.file_faults
@@ -237,7 +241,7 @@ module _ (start : Start) (told : FolderTold) (first : List Command) (before now 
       → ScansSoFar start old.seat.passes old.seat.seats told new.folder first new.seat.seen b.accepted b.refused
   so-far-same seen accepted cause = so-far-more (λ only. seen) (extends-itself old.seat.seen new.seat.seen seen) accepted cause
 
-  pub one-more : {A : Type 0} (result : Result A ScanRefused) → ScansOnce start result before now old new
+  pub one-more : {A : Type 0} (result : Result A ScanRefused) → ScansOnce Closes start result before now old new
       → OnOk result (b ≡ record a { accepted = raised a.accepted 1 }) → IfErr result (λ refusal. b ≡ counted a refusal)
       → ScansSoFar start old.seat.passes old.seat.seats told new.folder first new.seat.seen b.accepted b.refused
   one-more (Ok value) c is none = so-far-accepted c is
@@ -250,6 +254,7 @@ module _ (start : Start) (told : FolderTold) (first : List Command) (before now 
       so-far-more (λ only. seen ∙ c.turn.alone only) (subst (λ l. Extends l old.seat.seen) (sym seen) c.turn.begun) (ap (λ (k : Counts). k.accepted) is)
       (λ some. server-refuses start told old.folder new.folder tree contents entries files s.tree s.contents s.entry_faults s.file_faults
       new.seat.seen c.found c.scan error c.given c.refused (extends-itself c.found new.seat.seen seen))
+  one-more (Err refused.Keeper) c none is = absurd (unclosed c.0 c.1)
   one-more (Err refused.Mem) (inl none-taken) none is =
       let seen : new.seat.seen ≡ old.seat.seen = ap (λ (t : SeatTold Command). t.seen) none-taken.0 in
       so-far-same seen (ap (λ (k : Counts). k.accepted) is) (same-cause (extends-itself old.seat.seen new.seat.seen seen) (ap (λ (k : Counts). k.refused) is))
@@ -259,23 +264,24 @@ module _ (start : Start) (told : FolderTold) (first : List Command) (before now 
       so-far-more (λ only. seen ∙ taken.1.alone only) more (ap (λ (k : Counts). k.accepted) is) (same-cause more (ap (λ (k : Counts). k.refused) is))
 
 -- a scan leaves the passes of its seat
-pub scans-passes : {A : Type 0} (start : Start) (result : Result A ScanRefused) (before now : ℕ) (old new : Across) → ScansOnce start result before now old new
+pub scans-passes : {A : Type 0} (Closes : List Command → Type 0) (start : Start) (result : Result A ScanRefused) (before now : ℕ) (old new : Across) → ScansOnce Closes start result before now old new
     → new.seat.passes ≡ old.seat.passes
-scans-passes start (Ok value) before now old new c = ap (λ (t : SeatTold Command). t.passes) c.turn.seat
-scans-passes start (Err (refused.Scan error)) before now old new c = ap (λ (t : SeatTold Command). t.passes) c.1.0
-scans-passes start (Err (refused.Apply error)) before now old new c = ap (λ (t : SeatTold Command). t.passes) c.turn.seat
-scans-passes start (Err refused.Mem) before now old new (inl none) = ap (λ (t : SeatTold Command). t.passes) none.0
-scans-passes start (Err refused.Mem) before now old new (inr taken) = ap (λ (t : SeatTold Command). t.passes) taken.1.seat
+scans-passes Closes start (Ok value) before now old new c = ap (λ (t : SeatTold Command). t.passes) c.turn.seat
+scans-passes Closes start (Err (refused.Scan error)) before now old new c = ap (λ (t : SeatTold Command). t.passes) c.1.0
+scans-passes Closes start (Err (refused.Apply error)) before now old new c = ap (λ (t : SeatTold Command). t.passes) c.turn.seat
+scans-passes Closes start (Err refused.Keeper) before now old new c = ap (λ (t : SeatTold Command). t.passes) c.2.seat
+scans-passes Closes start (Err refused.Mem) before now old new (inl none) = ap (λ (t : SeatTold Command). t.passes) none.0
+scans-passes Closes start (Err refused.Mem) before now old new (inr taken) = ap (λ (t : SeatTold Command). t.passes) taken.1.seat
 
 -- the same scans, and as many counted as accepted
 pub same-scans : (first own own' : List Command) (a b : Counts) → own' ≡ own → b.accepted ≡ a.accepted → AddsScans a.accepted first own → AddsScans b.accepted first own'
 same-scans first own own' a b same counted s = (s.0, counted ∙ s.1, same ∙ s.2)
 
 -- a scan adds its map to the own commands of its seat, or nothing
-pub scans-own : {A : Type 0} (start : Start) (result : Result A ScanRefused) (before now : ℕ) (old new : Across) (a b : Counts) → ScansOnce start result before now old new
+pub scans-own : {A : Type 0} (Closes : List Command → Type 0) (start : Start) (result : Result A ScanRefused) (before now : ℕ) (old new : Across) (a b : Counts) → ScansOnce Closes start result before now old new
     → OnOk result (b ≡ record a { accepted = raised a.accepted 1 }) → IfErr result (λ refusal. b ≡ counted a refusal)
     → (first : List Command) → AddsScans a.accepted first old.seat.own → AddsScans b.accepted first new.seat.own
-scans-own start (Ok value) before now old new a b c is none first s = (
+scans-own Closes start (Ok value) before now old new a b c is none first s = (
   map_of c.scan.records ∷ s.0,
   one-up a.accepted b.accepted (length s.0) (2 ^ 64 - 1) (ap (λ (k : Counts). k.accepted) is) s.1,
   ap (λ (t : SeatTold Command). t.own) c.turn.seat ∙ ap (λ (z : List Command). Scans (map_of c.scan.records) ∷ z) s.2,
@@ -283,13 +289,15 @@ scans-own start (Ok value) before now old new a b c is none first s = (
   where
     one-up : (accepted more n top : ℕ) → more ≡ min (accepted + 1) top → accepted ≡ min (0 + n) top → more ≡ min (0 + suc n) top
     one-up accepted more n top counted many = omega (arith, counted, many)
-scans-own start (Err (refused.Scan error)) before now old new a b c none is first s =
+scans-own Closes start (Err (refused.Scan error)) before now old new a b c none is first s =
     same-scans first _ _ a b (ap (λ (t : SeatTold Command). t.own) c.1.0) (ap (λ (k : Counts). k.accepted) is) s
-scans-own start (Err (refused.Apply error)) before now old new a b c none is first s =
+scans-own Closes start (Err (refused.Apply error)) before now old new a b c none is first s =
     same-scans first _ _ a b (ap (λ (t : SeatTold Command). t.own) c.turn.seat) (ap (λ (k : Counts). k.accepted) is) s
-scans-own start (Err refused.Mem) before now old new a b (inl untaken) none is first s =
+scans-own Closes start (Err refused.Keeper) before now old new a b c none is first s =
+    same-scans first _ _ a b (ap (λ (t : SeatTold Command). t.own) c.2.seat) (ap (λ (k : Counts). k.accepted) is) s
+scans-own Closes start (Err refused.Mem) before now old new a b (inl untaken) none is first s =
     same-scans first _ _ a b (ap (λ (t : SeatTold Command). t.own) untaken.0) (ap (λ (k : Counts). k.accepted) is) s
-scans-own start (Err refused.Mem) before now old new a b (inr taken) none is first s =
+scans-own Closes start (Err refused.Mem) before now old new a b (inr taken) none is first s =
     same-scans first _ _ a b (ap (λ (t : SeatTold Command). t.own) taken.1.seat) (ap (λ (k : Counts). k.accepted) is) s
 
 -- each scan is counted
@@ -302,6 +310,9 @@ some-counted (Err (refused.Scan error)) a b none is =
     let one : 1 ≤ b.refused = subst (λ n. 1 ≤ n) (sym (ap (λ (k : Counts). k.refused) is)) (raised-some a.refused) in
     omega (arith, one)
 some-counted (Err (refused.Apply error)) a b none is =
+    let one : 1 ≤ b.refused = subst (λ n. 1 ≤ n) (sym (ap (λ (k : Counts). k.refused) is)) (raised-some a.refused) in
+    omega (arith, one)
+some-counted (Err refused.Keeper) a b none is =
     let one : 1 ≤ b.refused = subst (λ n. 1 ≤ n) (sym (ap (λ (k : Counts). k.refused) is)) (raised-some a.refused) in
     omega (arith, one)
 some-counted (Err refused.Mem) a b none is =
@@ -365,3 +376,7 @@ ends-scanning start passes seats told new first seen accepted refused memory s s
 pub read-later : (new old : List Command) (found : List Command) (first : List Command) → new ≡ [] ++ found → Extends found old → Extends old first
     → Extends new first
 read-later new old found first is more begun = begun-through new old first (subst (λ l. Extends l old) (sym is) more) begun
+
+-- a server that keeps nothing outside is never closed
+pub never-closed : (start : Start) (found : List Command) → CanBeClosed (λ (serving : Serving). unfailing) StandsFor start found → ⊥
+never-closed start found closed = absurd (true≢false (sym closed.1))

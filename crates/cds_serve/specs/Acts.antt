@@ -8,8 +8,6 @@ use Rattle.cds_commands.specs.Commands.{Command, Start, Scans, Ticks, is_stopped
 use Rattle.cds_http.specs.declared.message.Message.{Message}
 use Rattle.cds_object.specs.declared.record.Record.{Record}
 use Rattle.cds_store.specs.Applied.{IsRefusal}
-use Rattle.cds_store.specs.declared.error.ApplyError.{ApplyError}
-use Rattle.cds_store.specs.declared.span.Span.{Span}
 use Rattle.cds_server.specs.Asking.{Fits, IsAction, command_in, note_in, reply_in, said}
 use Rattle.cds_server.specs.Due.{AllGoOut, due}
 use Rattle.cds_server.specs.Media.{media_by}
@@ -17,6 +15,8 @@ use Rattle.cds_server.specs.Outcome.{GoesOut}
 use Rattle.cds_server.specs.Replies.{IsReply, command_at, note_at}
 use Rattle.cds_server.specs.declared.made.Answered.{Answered}
 use Rattle.cds_server.specs.declared.media.Media.{Media}
+use Rattle.cds_server.specs.declared.serving.TakeError.{TakeError}
+use Rattle.cds_server.specs.declared.serving.TakeError.TheVariants as take_error
 use Rattle.cds_ssdp.specs.declared.device.Device.{Device}
 use Rattle.cds_server.specs.declared.asking.Asking.{Asking}
 use Rattle.cds_serve.specs.declared.acts.Look.{Look}
@@ -83,11 +83,14 @@ abbrev pub IsLook : Start → List Command → ℕ → Result Look Mem → Type 
 IsLook start found now (Ok look) = (look.notes ≡ due start found now) × (look.stopped ≡ is_stopped found) × IfSome look.notes AllGoOut
 IsLook start found now (Err memory) = ⊤
 
--- The server accepts the records of a scan, or refuses them as the store does.
-abbrev pub scan_adds : List Record → Result Span ApplyError → List Command
-scan_adds records (Ok span) = Scans (map_of records) ∷ []
+-- The server accepts the records of a scan, or refuses them as the store does. Or it is closed, as it can be with the list of
+-- commands found, or memory ran out.
+abbrev pub scan_adds : {A : Type 0} → List Record → Result A TakeError → List Command
+scan_adds records (Ok value) = Scans (map_of records) ∷ []
 scan_adds records (Err refusal) = []
 
-abbrev pub IsScanAnswer : Start → List Command → List Record → Result Span ApplyError → Type 0
-IsScanAnswer start found records (Ok span) = scan_answer (scans_of start.first found) records ≡ Accepted
-IsScanAnswer start found records (Err refusal) = IsRefusal (scans_of start.first found) records refusal
+abbrev pub IsScanAnswer : {A : Type 0} → (List Command → Type 0) → Start → List Command → List Record → Result A TakeError → Type 0
+IsScanAnswer Closes start found records (Ok value) = scan_answer (scans_of start.first found) records ≡ Accepted
+IsScanAnswer Closes start found records (Err (take_error.Apply refusal)) = IsRefusal (scans_of start.first found) records refusal
+IsScanAnswer Closes start found records (Err take_error.Keeper) = Closes found
+IsScanAnswer Closes start found records (Err take_error.Mem) = ⊤

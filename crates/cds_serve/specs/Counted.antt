@@ -8,4 +8,5 @@ use Rattle.cds_serve.specs.declared.scanning.ScanRefused.TheVariants as refused
 abbrev pub counted : Counts → ScanRefused → Counts
 counted counts (refused.Scan error) = record counts { refused = raised counts.refused 1 }
 counted counts (refused.Apply error) = record counts { refused = raised counts.refused 1 }
+counted counts refused.Keeper = record counts { refused = raised counts.refused 1 }
 counted counts refused.Mem = record counts { memory = raised counts.memory 1 }

@@ -14,6 +14,8 @@ use Rattle.cds_scan.specs.declared.scanned.Scan.{Scan}
 use Rattle.cds_store.specs.Applied.{IsRefusal}
 use Rattle.cds_store.specs.declared.error.ApplyError.{ApplyError}
 use Rattle.cds_store.specs.declared.error.ApplyError.TheVariants as apply_error
+use Rattle.cds_server.specs.declared.serving.TakeError.{TakeError}
+use Rattle.cds_server.specs.declared.serving.TakeError.TheVariants as take_error
 use Rattle.cds_turn.specs.Line.{Extends}
 use Rattle.cds_serve.specs.declared.scanning.ScanRefused.{ScanRefused}
 use Rattle.cds_serve.specs.declared.scanning.ScanRefused.TheVariants as refused
@@ -81,23 +83,32 @@ pub record Declines (start : Start) (error : ApplyError) (before now : ℕ) (old
 abbrev pub IsUnscanned : FolderTold → FolderTold → ScanRefused → Type 0
 IsUnscanned old new (refused.Scan error) = IsScanRefusal old new error
 IsUnscanned old new (refused.Apply error) = ⊥
+IsUnscanned old new refused.Keeper = ⊥
 IsUnscanned old new refused.Mem = ⊤
 
+-- a refusal of the store, as it is answered
+abbrev pub declined_by : ApplyError → ScanRefused
+declined_by apply_error.Mem = refused.Mem
+declined_by (apply_error.BadRecords line) = refused.Apply (apply_error.BadRecords line)
+declined_by (apply_error.Full objects) = refused.Apply (apply_error.Full objects)
+declined_by (apply_error.Spent needed) = refused.Apply (apply_error.Spent needed)
+
 -- a refusal of the server, as it is answered
-abbrev pub declined : ApplyError → ScanRefused
-declined apply_error.Mem = refused.Mem
-declined (apply_error.BadRecords line) = refused.Apply (apply_error.BadRecords line)
-declined (apply_error.Full objects) = refused.Apply (apply_error.Full objects)
-declined (apply_error.Spent needed) = refused.Apply (apply_error.Spent needed)
+abbrev pub declined : TakeError → ScanRefused
+declined (take_error.Apply refusal) = declined_by refusal
+declined take_error.Keeper = refused.Keeper
+declined take_error.Mem = refused.Mem
 
 -- What comes of a scan, by its answer:
 -- - it was accepted;
 -- - the folder was not scanned, and no turn was taken;
--- - the server refused what the scan gave; or
+-- - the server refused what the scan gave;
+-- - the server is closed, as it can be with the list found; or
 -- - memory ran out, before a turn or in it
-abbrev pub ScansOnce : {A : Type 0} → Start → Result A ScanRefused → ℕ → ℕ → Across → Across → Type 0
-ScansOnce start (Ok value) before now old new = Accepts start before now old new
-ScansOnce start (Err (refused.Scan error)) before now old new = IsScanRefusal old.folder new.folder error × TakesNone before now old new
-ScansOnce start (Err (refused.Apply error)) before now old new = Declines start error before now old new
-ScansOnce start (Err refused.Mem) before now old new =
+abbrev pub ScansOnce : {A : Type 0} → (List Command → Type 0) → Start → Result A ScanRefused → ℕ → ℕ → Across → Across → Type 0
+ScansOnce Closes start (Ok value) before now old new = Accepts start before now old new
+ScansOnce Closes start (Err (refused.Scan error)) before now old new = IsScanRefusal old.folder new.folder error × TakesNone before now old new
+ScansOnce Closes start (Err (refused.Apply error)) before now old new = Declines start error before now old new
+ScansOnce Closes start (Err refused.Keeper) before now old new = (found : List Command) × Closes found × TakesOne found [] before now old new
+ScansOnce Closes start (Err refused.Mem) before now old new =
     TakesNone before now old new ⊎ ((found : List Command) × TakesOne found [] before now old new)

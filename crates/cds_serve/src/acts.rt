@@ -7,8 +7,7 @@ ghost use Rattle.cds_serve.specs.Served.{added};
 use crate::served::Served;
 use cds_base::{Bytes, Mem};
 use cds_scan::Scan;
-use cds_server::{Answered, Asking, FirstNote, Media, Notes};
-use cds_store::{ApplyError, Span};
+use cds_server::{Answered, Asking, FirstNote, Media, Notes, Serving, TakeError};
 use cds_turn::Act;
 use std::alloc::Global;
 
@@ -41,7 +40,7 @@ pub(crate) struct Handle<'a> {
     pub asking: &'a Asking,
 }
 
-impl<'a> Act<Served> for Handle<'a> {
+impl<'a, V: Serving> Act<Served<V>> for Handle<'a> {
     ghost use Rattle.std.specs.Prelude.{⊤};
     ghost use Rattle.cds_serve.specs.Acts.{IsAnswerGiven, answer_adds};
 
@@ -53,7 +52,7 @@ impl<'a> Act<Served> for Handle<'a> {
 
     ghost does = { λ _ _ _ _. ⊤ };
 
-    fn act(self, served: &mut Served) -> (Result<Answered, Mem>, u64) {
+    fn act(self, served: &mut Served<V>) -> (Result<Answered, Mem>, u64) {
         match served.answer(self.alloc, self.now, self.asking) {
             Ok(answered) => {
                 let count = appended(answered.accepted);
@@ -71,7 +70,7 @@ pub(crate) struct Find {
     pub id: u32,
 }
 
-impl Act<Served> for Find {
+impl<V: Serving> Act<Served<V>> for Find {
     ghost use Rattle.std.specs.Prelude.{[], ⊤};
     ghost use Rattle.cds_serve.specs.Acts.{IsFileNamed};
 
@@ -83,7 +82,7 @@ impl Act<Served> for Find {
 
     ghost does = { λ _ _ _ _. ⊤ };
 
-    fn act(self, served: &mut Served) -> (Result<Option<Media>, Mem>, u64) {
+    fn act(self, served: &mut Served<V>) -> (Result<Option<Media>, Mem>, u64) {
         (served.media(self.alloc, self.id), 0)
     }
 }
@@ -97,21 +96,22 @@ pub(crate) struct Accept<'a> {
     ghost few: { length scan.now.records < 2 ^ 32 },
 }
 
-impl<'a> Act<Served> for Accept<'a> {
+impl<'a, V: Serving> Act<Served<V>> for Accept<'a> {
     ghost use Rattle.std.specs.Prelude.{⊤};
     ghost use Rattle.cds_serve.specs.Acts.{IsScanAnswer, scan_adds};
+    ghost use Rattle.cds_serve.specs.Served.{CanBeClosed};
 
-    type Out = Result<Span, ApplyError>;
+    type Out = Result<(), TakeError>;
 
     ghost adds = { λ act _ _ answer. scan_adds act.scan.now.records answer };
 
-    ghost answers = { λ act start found answer. IsScanAnswer start found act.scan.now.records answer };
+    ghost answers = { λ act start found answer. IsScanAnswer (CanBeClosed V.told V.stands start) start found act.scan.now.records answer };
 
     ghost does = { λ _ _ _ _. ⊤ };
 
-    fn act(self, served: &mut Served) -> (Result<Span, ApplyError>, u64) {
-        match served.accept_scan(self.alloc, self.now, self.scan) {
-            Ok(span) => (Ok(span), 1),
+    fn act(self, served: &mut Served<V>) -> (Result<(), TakeError>, u64) {
+        match served.take_scan(self.alloc, self.now, self.scan) {
+            Ok(()) => (Ok(()), 1),
             Err(refusal) => (Err(refusal), 0),
         }
     }
@@ -132,7 +132,7 @@ pub(crate) struct Tick {
     pub now: u64,
 }
 
-impl Act<Served> for Tick {
+impl<V: Serving> Act<Served<V>> for Tick {
     ghost use Rattle.std.specs.Prelude.{⊤};
     ghost use Rattle.cds_serve.specs.Acts.{IsLook, look_adds};
 
@@ -144,7 +144,7 @@ impl Act<Served> for Tick {
 
     ghost does = { λ _ _ _ _. ⊤ };
 
-    fn act(self, served: &mut Served) -> (Result<Look, Mem>, u64) {
+    fn act(self, served: &mut Served<V>) -> (Result<Look, Mem>, u64) {
         let stopped = served.stopped();
         match served.tick(self.alloc, self.now) {
             Ok(notes) => (Ok(Look { notes, stopped }), 1),
@@ -157,7 +157,7 @@ impl Act<Served> for Tick {
 #[derive(Clone, Copy)]
 pub(crate) struct Stop;
 
-impl Act<Served> for Stop {
+impl<V: Serving> Act<Served<V>> for Stop {
     ghost use Rattle.std.specs.Prelude.{[], ◌∷◌, ⊤};
     ghost use Rattle.cds_commands.specs.Commands.{Stops};
 
@@ -169,7 +169,7 @@ impl Act<Served> for Stop {
 
     ghost does = { λ _ _ _ _. ⊤ };
 
-    fn act(self, served: &mut Served) -> ((), u64) {
+    fn act(self, served: &mut Served<V>) -> ((), u64) {
         served.stop();
         ((), 1)
     }
@@ -179,7 +179,7 @@ impl Act<Served> for Stop {
 #[derive(Clone, Copy)]
 pub(crate) struct IsStopped;
 
-impl Act<Served> for IsStopped {
+impl<V: Serving> Act<Served<V>> for IsStopped {
     ghost use Rattle.std.specs.Prelude.{◌≡◌, [], ⊤};
     ghost use Rattle.cds_commands.specs.Commands.{is_stopped};
 
@@ -191,7 +191,7 @@ impl Act<Served> for IsStopped {
 
     ghost does = { λ _ _ _ _. ⊤ };
 
-    fn act(self, served: &mut Served) -> (bool, u64) {
+    fn act(self, served: &mut Served<V>) -> (bool, u64) {
         (served.stopped(), 0)
     }
 }

@@ -21,10 +21,11 @@ use crate::served::Served;
 use crate::target::FreeAnswer;
 use cds_base::Mem;
 use cds_outside::{Clock, Conn, Failed, Folder, Gate, Linger, Link};
-use cds_server::{Answered, Asking, FirstNote, Media, read_asked, write_made};
+use cds_server::{Answered, Asking, FirstNote, Media, Serving, read_asked, write_made};
 use cds_ssdp::Device;
 use cds_turn::{Seat, Turn};
 use std::alloc::Global;
+use std::marker::Send;
 use std::sync::Wait;
 
 /// The reply if memory runs out; it takes no memory. It is the fault 603 of a control request (UPnP Device Architecture 2.0 on
@@ -44,8 +45,8 @@ pub(crate) const BEHIND_REPLY: u32 = 2;
 ///   gets 405. Neither costs a turn.
 /// - GET and HEAD of `/media/ID` ask for the file of the track with that id, in plain decimal. The server names the file in one turn.
 ///   Its bytes are sent outside the turn: all of them, or the one range that RANGE asks for. HEAD gets the head that GET without
-///   RANGE would get. The statuses are decided in this order: 404 if the id names no track, 405 for another method, 416 for a range
-///   outside the file, 404 if the file cannot be opened.
+///   RANGE would get. The statuses are decided in this order: 404 if the id names no track, 405 for another method, 416 if GET asks
+///   for a range outside the file, 404 if the file cannot be opened.
 /// - Any other message that is refused, or that the server has no part in, is answered with its status. It costs no turn.
 /// - Any other message is answered by the server in one turn.
 /// - If memory runs out while a message is read or handled, the constant reply of the fault 603 is written.
@@ -53,11 +54,11 @@ pub(crate) const BEHIND_REPLY: u32 = 2;
 ///
 /// `last` is the last moment that the clock gave. If the clock fails, it is the moment of the turn. The gate is passed at point 1
 /// before the reply and at point 2 after it.
-pub fn serve_one<R: Wait, C: Conn, T: Clock, L: Link, G: Gate, F: Folder>(
+pub fn serve_one<R: Wait, V: Serving + Send, C: Conn, T: Clock, L: Link, G: Gate, F: Folder>(
     rt: &R,
     alloc: Global,
-    turn: &Turn<Served>,
-    seat: &mut Seat<Served>,
+    turn: &Turn<Served<V>>,
+    seat: &mut Seat<Served<V>>,
     conn: &mut C,
     clock: &mut T,
     last: &mut u64,

@@ -24,6 +24,7 @@ use crate::served::Served;
 use crate::worker::{Post, Worked, Worker};
 use cds_base::Mem;
 use cds_outside::{Clock, Door, Folder, Gate, Job, Link, Outside, Running, Runtime, Spawner};
+use cds_server::Server;
 use cds_turn::{Seat, Turn};
 use std::alloc::Global;
 use std::marker::Send;
@@ -46,8 +47,8 @@ pub(crate) struct Crew<R, D, T, L, F, G> {
     pub(crate) port: u16,
     /// How many connections the workers are to serve.
     pub(crate) requests: u32,
-    pub(crate) turn: Arc<Turn<Served>>,
-    pub(crate) seat: Seat<Served>,
+    pub(crate) turn: Arc<Turn<Served<Server>>>,
+    pub(crate) seat: Seat<Served<Server>>,
     pub(crate) workers: Vec<Worker<R, D, T, L, G, F>>,
     pub(crate) scanner: Scanner<R, F, T, G>,
     pub(crate) notifier: Notifier<R, T, L, G>,
@@ -63,8 +64,8 @@ pub(crate) struct Crew<R, D, T, L, F, G> {
 /// A server at its end, with the last seat of its turn, and what the scanner counted.
 #[derive(Drop)]
 pub(crate) struct Finished {
-    pub(crate) turn: Arc<Turn<Served>>,
-    pub(crate) seat: Seat<Served>,
+    pub(crate) turn: Arc<Turn<Served<Server>>>,
+    pub(crate) seat: Seat<Served<Server>>,
     pub(crate) counts: Counts,
     ghost own: { IsSeatOf (arc_value turn) seat },
 }
@@ -74,7 +75,7 @@ pub(crate) struct Finished {
 struct Ground<'a, R> {
     rt: &'a R,
     alloc: Global,
-    turn: &'a Arc<Turn<Served>>,
+    turn: &'a Arc<Turn<Served<Server>>>,
     port: u16,
     /// The UUID of the device.
     uuid: Uuid,
@@ -83,8 +84,8 @@ struct Ground<'a, R> {
 /// A server that was opened, before any command, with the one seat of its turn and the UUID of its device.
 #[derive(Drop)]
 struct Opening {
-    turn: Arc<Turn<Served>>,
-    seat: Seat<Served>,
+    turn: Arc<Turn<Served<Server>>>,
+    seat: Seat<Served<Server>>,
     uuid: Uuid,
     ghost own: { IsSeatOf (arc_value turn) seat },
 }
@@ -92,8 +93,8 @@ struct Opening {
 /// A share of the turn, and a seat of it.
 #[derive(Drop)]
 struct JobSeat {
-    turn: Arc<Turn<Served>>,
-    seat: Seat<Served>,
+    turn: Arc<Turn<Served<Server>>>,
+    seat: Seat<Served<Server>>,
     ghost own: { IsSeatOf (arc_value turn) seat },
 }
 
@@ -102,8 +103,8 @@ struct JobSeat {
 struct Kit<R, G> {
     rt: R,
     gate: G,
-    turn: Arc<Turn<Served>>,
-    seat: Seat<Served>,
+    turn: Arc<Turn<Served<Server>>>,
+    seat: Seat<Served<Server>>,
     ghost own: { IsSeatOf (arc_value turn) seat },
 }
 
@@ -211,7 +212,10 @@ fn open_turn(alloc: Global, boot: [u64; 2]) -> Result<Opening, Mem>
 }
 
 /// Returns a seat for one job, which takes one of the passes.
-fn job_seat_of(turn: &Arc<Turn<Served>>, seat: &mut Seat<Served>) -> Result<JobSeat, Mem>
+fn job_seat_of(
+    turn: &Arc<Turn<Served<Server>>>,
+    seat: &mut Seat<Served<Server>>,
+) -> Result<JobSeat, Mem>
     requires seat { IsSeatOf (arc_value turn.now) seat.old }
     requires passes { 2 ≤ passes_of seat.old }
     ensures seat { IsSeatOf (arc_value turn.now) seat.new }
@@ -230,7 +234,7 @@ fn job_seat_of(turn: &Arc<Turn<Served>>, seat: &mut Seat<Served>) -> Result<JobS
 /// Returns what the job of this number is given. Its seat takes one of the passes.
 fn kit_of<R: Clone + Drop, G: Gate + Drop>(
     ground: &Ground<'_, R>,
-    seat: &mut Seat<Served>,
+    seat: &mut Seat<Served<Server>>,
     number: u32,
     gate: &mut G,
 ) -> Result<Kit<R, G>, Mem>
@@ -265,7 +269,7 @@ fn hire_workers<
     G: Gate + Send + Drop + 'static,
 >(
     ground: &Ground<'_, R>,
-    seat: &mut Seat<Served>,
+    seat: &mut Seat<Served<Server>>,
     requests: u32,
     all: Vec<Ends<D, T, L, F>>,
     gate: &mut G,
@@ -302,7 +306,7 @@ fn hire_worker<
     G: Gate + Send + Drop + 'static,
 >(
     ground: &Ground<'_, R>,
-    seat: &mut Seat<Served>,
+    seat: &mut Seat<Served<Server>>,
     requests: u32,
     number: u32,
     ends: Ends<D, T, L, F>,
@@ -346,7 +350,7 @@ fn hire_scanner<
     G: Gate + Send + Drop + 'static,
 >(
     ground: &Ground<'_, R>,
-    seat: &mut Seat<Served>,
+    seat: &mut Seat<Served<Server>>,
     folder: F,
     clock: T,
     gate: &mut G,
@@ -378,7 +382,7 @@ fn hire_notifier<
     G: Gate + Send + Drop + 'static,
 >(
     ground: &Ground<'_, R>,
-    seat: &mut Seat<Served>,
+    seat: &mut Seat<Served<Server>>,
     clock: T,
     link: L,
     gate: &mut G,
@@ -443,7 +447,7 @@ where
         notifier,
     } = start_crew(rt, spawner, workers, scanner, notifier, running);
     let started = notifier.is_some();
-    let shared: &Turn<Served> = &turn;
+    let shared: &Turn<Served<Server>> = &turn;
     stop_if(!started, rt, shared, &mut seat);
     let served = join_workers(rt, outside, shared, &mut seat, workers);
     stop_if(started, rt, shared, &mut seat);
@@ -481,7 +485,12 @@ fn outcome_of(
 }
 
 /// Tells the server to stop, if this is wanted.
-fn stop_if<R: Wait>(wanted: bool, rt: &R, turn: &Turn<Served>, seat: &mut Seat<Served>)
+fn stop_if<R: Wait>(
+    wanted: bool,
+    rt: &R,
+    turn: &Turn<Served<Server>>,
+    seat: &mut Seat<Served<Server>>,
+)
     requires { IsSeatOf turn.now seat.old }
     ensures seat { IsSeatOf turn.now seat.new }
     ensures passes { passes_of seat.new ≡ passes_of seat.old }
@@ -495,7 +504,7 @@ fn stop_if<R: Wait>(wanted: bool, rt: &R, turn: &Turn<Served>, seat: &mut Seat<S
 
 /// Looks at the server once more. If the seat is the only one, it has then seen all that the server accepted, and any test passes as
 /// many of those commands as of its own.
-fn look_last<R: Wait>(rt: &R, turn: &Turn<Served>, seat: &mut Seat<Served>)
+fn look_last<R: Wait>(rt: &R, turn: &Turn<Served<Server>>, seat: &mut Seat<Served<Server>>)
     requires { IsSeatOf turn.now seat.old }
     ensures seat { IsSeatOf turn.now seat.new }
     ensures passes { passes_of seat.new ≡ passes_of seat.old }
@@ -589,8 +598,8 @@ fn start_workers<R: Threads, W: Spawner, J: Job>(
 fn join_workers<R: Runtime, O: Outside, G: Gate + Send + Drop + 'static>(
     rt: &R,
     outside: &mut O,
-    turn: &Turn<Served>,
-    seat: &mut Seat<Served>,
+    turn: &Turn<Served<Server>>,
+    seat: &mut Seat<Served<Server>>,
     running: Vec<Running<Worker<R, O::D, O::C, O::L, G, O::F>>>,
 ) -> u64
 where
@@ -634,8 +643,8 @@ fn join_scanner<
     G: Gate + Send + Drop + 'static,
 >(
     rt: &R,
-    turn: &Turn<Served>,
-    seat: &mut Seat<Served>,
+    turn: &Turn<Served<Server>>,
+    seat: &mut Seat<Served<Server>>,
     scanner: Option<Running<Scanner<R, F, T, G>>>,
 ) -> Option<Counts>
 where
@@ -671,8 +680,8 @@ fn join_notifier<
     G: Gate + Send + Drop + 'static,
 >(
     rt: &R,
-    turn: &Turn<Served>,
-    seat: &mut Seat<Served>,
+    turn: &Turn<Served<Server>>,
+    seat: &mut Seat<Served<Server>>,
     notifier: Option<Running<Notifier<R, T, L, G>>>,
 )
     requires seat { IsSeatOf turn.now seat.old }

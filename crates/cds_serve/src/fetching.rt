@@ -56,7 +56,7 @@ struct Prepared {
 ///
 /// - If the id named no track, the status is 404.
 /// - If the method is neither GET nor HEAD, it is 405.
-/// - If the range does not lie in the file, it is 416. No file is opened in these three cases.
+/// - If GET asks for a range that does not lie in the file, it is 416. No file is opened in these three cases.
 /// - If the file cannot be opened, it is 404.
 ///
 /// Otherwise the head is written, and after it the planned bytes for GET. If memory runs out, the constant reply is written.

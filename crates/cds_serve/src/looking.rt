@@ -10,8 +10,10 @@ use crate::sending::send_notes;
 use crate::served::Served;
 use cds_base::Mem;
 use cds_outside::{Clock, Link};
+use cds_server::Serving;
 use cds_turn::{Seat, Turn};
 use std::alloc::Global;
+use std::marker::Send;
 use std::sync::Wait;
 
 /// Has the server tick in one turn, and then sends the notes of the release that was due. Each note is sent once, in the order in
@@ -19,11 +21,11 @@ use std::sync::Wait;
 ///
 /// Returns true exactly if the server was stopped. If memory runs out, the server may not have ticked, or only a prefix of the
 /// notes was sent, never all. `last` is the last moment that the clock gave. If the clock fails, it is the moment of the turn.
-pub fn notify_once<R: Wait, T: Clock, L: Link>(
+pub fn notify_once<R: Wait, V: Serving + Send, T: Clock, L: Link>(
     rt: &R,
     alloc: Global,
-    turn: &Turn<Served>,
-    seat: &mut Seat<Served>,
+    turn: &Turn<Served<V>>,
+    seat: &mut Seat<Served<V>>,
     clock: &mut T,
     last: &mut u64,
     link: &mut L,

@@ -9,6 +9,7 @@ use crate::scanner::REST;
 use crate::served::Served;
 use cds_base::Mem;
 use cds_outside::{Clock, Gate, Job, Link};
+use cds_server::Server;
 use cds_turn::{Seat, Turn};
 use std::alloc::Global;
 use std::marker::Send;
@@ -19,8 +20,8 @@ use std::sync::{Arc, Wait};
 pub struct Notifier<R, T, L, G> {
     pub rt: R,
     pub alloc: Global,
-    pub turn: Arc<Turn<Served>>,
-    pub seat: Seat<Served>,
+    pub turn: Arc<Turn<Served<Server>>>,
+    pub seat: Seat<Served<Server>>,
     pub clock: T,
     pub link: L,
     pub gate: G,
@@ -30,7 +31,7 @@ pub struct Notifier<R, T, L, G> {
 /// What the notifier answers.
 #[derive(Drop)]
 pub struct Notified {
-    pub seat: Seat<Served>,
+    pub seat: Seat<Served<Server>>,
 }
 
 impl<

@@ -14,6 +14,7 @@ use crate::moment::ask_moment;
 use crate::scanning::{ScanRefused, scan_once};
 use crate::served::Served;
 use cds_outside::{Clock, Folder, Gate, Job};
+use cds_server::Server;
 use cds_turn::{Seat, Turn};
 use std::alloc::Global;
 use std::marker::Send;
@@ -31,8 +32,8 @@ pub(crate) const REST: u32 = 50;
 pub struct Scanner<R, F, T, G> {
     pub rt: R,
     pub alloc: Global,
-    pub turn: Arc<Turn<Served>>,
-    pub seat: Seat<Served>,
+    pub turn: Arc<Turn<Served<Server>>>,
+    pub seat: Seat<Served<Server>>,
     pub folder: F,
     pub clock: T,
     pub gate: G,
@@ -43,7 +44,7 @@ pub struct Scanner<R, F, T, G> {
 #[derive(Drop)]
 pub struct Scanned<F> {
     pub folder: F,
-    pub seat: Seat<Served>,
+    pub seat: Seat<Served<Server>>,
     /// How many scans were accepted.
     pub accepted: u64,
     /// How many were refused for another cause than `memory` counts.
@@ -110,8 +111,8 @@ impl<
 fn scan_until_stopped<R: Wait, F: Folder, T: Clock>(
     rt: &R,
     alloc: Global,
-    turn: &Turn<Served>,
-    seat: &mut Seat<Served>,
+    turn: &Turn<Served<Server>>,
+    seat: &mut Seat<Served<Server>>,
     folder: &mut F,
     clock: &mut T,
 ) -> Counts
@@ -139,7 +140,7 @@ fn scan_until_stopped<R: Wait, F: Folder, T: Clock>(
 }
 
 /// Returns what is answered at the end.
-fn ended<F>(folder: F, seat: Seat<Served>, counts: Counts) -> Scanned<F>
+fn ended<F>(folder: F, seat: Seat<Served<Server>>, counts: Counts) -> Scanned<F>
     ensures { result ≡ record {
       folder = folder;
       seat = seat;
@@ -160,8 +161,8 @@ fn ended<F>(folder: F, seat: Seat<Served>, counts: Counts) -> Scanned<F>
 /// Waits until the next scan is due, and looks at the server in the meantime. Returns whether the server was stopped.
 fn wait_for_scan<R: Wait, T: Clock>(
     rt: &R,
-    turn: &Turn<Served>,
-    seat: &mut Seat<Served>,
+    turn: &Turn<Served<Server>>,
+    seat: &mut Seat<Served<Server>>,
     clock: &mut T,
     last: &mut u64,
 ) -> bool

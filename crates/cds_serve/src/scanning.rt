@@ -4,16 +4,19 @@ ghost use Rattle.std.specs.Prelude.{◌≡◌, ◌+◌, ◌≤◌, ◌<◌, ◌^
 ghost use Rattle.cds_scan.specs.Scanning.{GoesOn};
 ghost use Rattle.cds_turn.specs.Turn.{IsSeatOf, seat_told, start_of};
 ghost use Rattle.cds_catalog.specs.Scans.{bad_record};
-ghost use Rattle.cds_serve.specs.Scanned.{IsUnscanned, MayGive, ScansOnce, declined};
+ghost use Rattle.cds_serve.specs.Scanned.{IsUnscanned, MayGive, ScansOnce, declined, declined_by};
+ghost use Rattle.cds_serve.specs.Served.{CanBeClosed};
 
 use crate::acts::accepting;
 use crate::moment::ask_moment;
 use crate::served::Served;
 use cds_outside::{Clock, Folder};
 use cds_scan::{Scan, ScanError, scan};
-use cds_store::{ApplyError, Span};
+use cds_server::{Serving, TakeError};
+use cds_store::ApplyError;
 use cds_turn::{Seat, Turn};
 use std::alloc::Global;
+use std::marker::Send;
 use std::sync::Wait;
 use thiserror::Error;
 
@@ -26,26 +29,29 @@ pub enum ScanRefused {
     /// The server refused what the scan found.
     #[error("the scan was refused: {0}")]
     Apply(ApplyError),
+    /// The server is closed: its catalog could not be kept, now or at an earlier scan.
+    #[error("the catalog could not be kept")]
+    Keeper,
     #[error("out of memory")]
     Mem,
 }
 
 /// Scans the folder from its beginning outside a turn, and has the server take what was found in one turn. `Scan` is the refusal
 /// of `scan`; then no turn is taken. `Apply` is the refusal of `Server::accept_scan`, for the commands that the server stood for
-/// in the turn. A refused scan leaves the server as it was. `last` is the last moment that the clock gave. If the clock fails, it
-/// is the moment of the turn.
-pub fn scan_once<R: Wait, F: Folder, T: Clock>(
+/// in the turn. `Keeper` comes of a server that is closed, never of one that keeps nothing outside. A refused scan adds nothing to
+/// what the server stands for. `last` is the last moment that the clock gave. If the clock fails, it is the moment of the turn.
+pub fn scan_once<R: Wait, V: Serving + Send, F: Folder, T: Clock>(
     rt: &R,
     alloc: Global,
-    turn: &Turn<Served>,
-    seat: &mut Seat<Served>,
+    turn: &Turn<Served<V>>,
+    seat: &mut Seat<Served<V>>,
     folder: &mut F,
     clock: &mut T,
     last: &mut u64,
 ) -> Result<(), ScanRefused>
     requires { IsSeatOf turn.now seat.old }
     ensures seat { IsSeatOf turn.now seat.new }
-    ensures scanned { ScansOnce (start_of turn.now seat.old) result last.old last.new
+    ensures scanned { ScansOnce (CanBeClosed V.told V.stands (start_of turn.now seat.old)) (start_of turn.now seat.old) result last.old last.new
         (record {
           seat = seat_told turn.now seat.old;
           folder = F.told folder.old;
@@ -82,19 +88,30 @@ fn scanned<F: Folder>(alloc: Global, folder: &mut F) -> Result<Scan, ScanRefused
 }
 
 /// Returns the answer of a scan, by the answer of the server.
-fn scan_answer(answer: Result<Span, ApplyError>) -> Result<(), ScanRefused>
+fn scan_answer(answer: Result<(), TakeError>) -> Result<(), ScanRefused>
     ensures ok { OnOk answer (IsOk result) }
     ensures refused { IfErr answer (λ refusal. IsErrOf result (declined refusal)) }
 {
     match answer {
-        Ok(_) => Ok(()),
+        Ok(()) => Ok(()),
         Err(refusal) => Err(declined(refusal)),
     }
 }
 
 /// Returns a refusal of the server as one of a scan.
-fn declined(refusal: ApplyError) -> ScanRefused
+fn declined(refusal: TakeError) -> ScanRefused
     ensures { result ≡ declined refusal }
+{
+    match refusal {
+        TakeError::Apply(refusal) => declined_by(refusal),
+        TakeError::Keeper => ScanRefused::Keeper,
+        TakeError::Mem => ScanRefused::Mem,
+    }
+}
+
+/// Returns a refusal of the store as one of a scan.
+fn declined_by(refusal: ApplyError) -> ScanRefused
+    ensures { result ≡ declined_by refusal }
 {
     match refusal {
         ApplyError::Mem => ScanRefused::Mem,

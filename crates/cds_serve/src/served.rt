@@ -6,13 +6,13 @@ ghost use Rattle.cds_server.specs.Asking.{command_in};
 ghost use Rattle.cds_commands.specs.Names.{names_of};
 ghost use Rattle.cds_server.specs.Due.{AllGoOut, due};
 ghost use Rattle.cds_server.specs.Published.{device_name};
+ghost use Rattle.cds_server.specs.Serving.{StandsFor};
 ghost use Rattle.cds_serve.specs.Acts.{IsAnswerGiven, IsFileNamed, IsScanAnswer, scan_adds};
-ghost use Rattle.cds_serve.specs.Served.{Stands, added};
+ghost use Rattle.cds_serve.specs.Served.{CanBeClosed, Stands, added};
 
 use cds_base::Mem;
 use cds_scan::Scan;
-use cds_server::{Answered, Asking, Media, Notes, Server};
-use cds_store::{ApplyError, Span};
+use cds_server::{Answered, Asking, Media, Notes, Server, Serving, TakeError};
 use cds_turn::StandsFor;
 use std::alloc::Global;
 use std::marker::Model;
@@ -49,21 +49,21 @@ impl Model for ServerCommand {
 
 /// A server that threads share in turns. Contracts see the server and what it was opened with.
 #[derive(Drop)]
-pub struct Served {
-    server: Server,
+pub struct Served<V> {
+    server: V,
     /// It takes no memory.
     opening: Snapshot<ServerStart>,
 }
 
-impl Model for Served {
+impl<V> Model for Served<V> {
     ghost use Rattle.cds_serve.specs.Served.{Opened};
 
-    ghost Value = { Opened };
+    ghost Value = { Opened V };
 
     ghost view = { λ s. record { server = s.server; start = s.opening.value } };
 }
 
-impl StandsFor for Served {
+impl<V: Serving> StandsFor for Served<V> {
     ghost use Rattle.cds_serve.specs.Served.{Stands};
 
     type Command = ServerCommand;
@@ -72,14 +72,14 @@ impl StandsFor for Served {
 
     ghost start = { λ served. served.start };
 
-    ghost stands = { Stands };
+    ghost stands = { Stands V.stands };
 }
 
-impl Served {
+impl Served<Server> {
     /// Makes a server before any command, opened with two boot words and its first number.
-    pub fn new(alloc: Global, boot: [u64; 2], first: u32) -> Result<Served, Mem>
+    pub fn new(alloc: Global, boot: [u64; 2], first: u32) -> Result<Served<Server>, Mem>
         ensures start { IfOk result (λ served. served.start ≡ record { high = slice_index boot 0; low = slice_index boot 1; first = first }) }
-        ensures stands { IfOk result (λ served. Stands served served.start []) }
+        ensures stands { IfOk result (λ served. Stands StandsFor served served.start []) }
     {
         let opening = ServerStart { boot, first };
         let server = Server::new(alloc, boot, first)?;
@@ -88,9 +88,23 @@ impl Served {
             opening: Snapshot::of(&opening),
         })
     }
+}
+
+impl<V: Serving> Served<V> {
+    /// Makes it of a server before any command that was opened so.
+    pub fn of(server: V, opening: &ServerStart) -> Served<V>
+        requires { V.stands server opening.now [] }
+        ensures start { result.start ≡ opening.now }
+        ensures stands { Stands V.stands result result.start [] }
+    {
+        Served {
+            server,
+            opening: Snapshot::of(opening),
+        }
+    }
 
     /// Returns the server.
-    pub fn server(&self) -> &Server
+    pub fn server(&self) -> &V
         ensures { result.now ≡ self.now.server }
     {
         &self.server
@@ -103,44 +117,44 @@ impl Served {
         now: u64,
         asking: &Asking,
     ) -> Result<Answered, Mem>
-        ensures given { (start : Start) (found : List Command) → Stands self.old start found → IsAnswerGiven start found now asking.now result }
-        ensures stands { (start : Start) (found : List Command) → Stands self.old start found
-            → OnOk result (Stands self.new start (added (command_in start found now asking.now) ++ found)) }
-        ensures accepted { (start : Start) (found : List Command) → Stands self.old start found
+        ensures given { (start : Start) (found : List Command) → Stands V.stands self.old start found → IsAnswerGiven start found now asking.now result }
+        ensures stands { (start : Start) (found : List Command) → Stands V.stands self.old start found
+            → OnOk result (Stands V.stands self.new start (added (command_in start found now asking.now) ++ found)) }
+        ensures accepted { (start : Start) (found : List Command) → Stands V.stands self.old start found
             → IfOk result (λ answered. answered.accepted ≡ is_some (command_in start found now asking.now)) }
         ensures stays { OnErr result (self.new ≡ self.old) }
     {
         self.server.answer(alloc, now, asking)
     }
 
-    /// Has the server take what a scan found, as `Server::accept_scan` says.
-    pub(crate) fn accept_scan(
+    /// Has the server take what a scan found, as `Serving::take_scan` says.
+    pub(crate) fn take_scan(
         &mut self,
         alloc: Global,
         now: u64,
         scan: &Scan,
-    ) -> Result<Span, ApplyError>
+    ) -> Result<(), TakeError>
         requires { length scan.now.records < 2 ^ 32 }
-        ensures answer { (start : Start) (found : List Command) → Stands self.old start found
-            → IsScanAnswer start found scan.now.records result }
-        ensures stands { (start : Start) (found : List Command) → Stands self.old start found
-            → Stands self.new start (scan_adds scan.now.records result ++ found) }
+        ensures answer { (start : Start) (found : List Command) → Stands V.stands self.old start found
+            → IsScanAnswer (CanBeClosed V.told V.stands start) start found scan.now.records result }
+        ensures stands { (start : Start) (found : List Command) → Stands V.stands self.old start found
+            → Stands V.stands self.new start (scan_adds scan.now.records result ++ found) }
     {
-        self.server.accept_scan(alloc, now, scan)
+        self.server.take_scan(alloc, now, scan)
     }
 
     /// Returns the file of the track with an id, as `Server::media` says.
     pub(crate) fn media(&self, alloc: Global, id: u32) -> Result<Option<Media>, Mem>
-        ensures { (start : Start) (found : List Command) → Stands self.now start found → IsFileNamed start found id result }
+        ensures { (start : Start) (found : List Command) → Stands V.stands self.now start found → IsFileNamed start found id result }
     {
         self.server.media(alloc, id)
     }
 
     /// Has the server tick, as `Server::tick` says.
     pub(crate) fn tick(&mut self, alloc: Global, now: u64) -> Result<Option<Notes>, Mem>
-        ensures stands { (start : Start) (found : List Command) → Stands self.old start found
-            → OnOk result (Stands self.new start (Ticks now ∷ found)) }
-        ensures notes { (start : Start) (found : List Command) → Stands self.old start found
+        ensures stands { (start : Start) (found : List Command) → Stands V.stands self.old start found
+            → OnOk result (Stands V.stands self.new start (Ticks now ∷ found)) }
+        ensures notes { (start : Start) (found : List Command) → Stands V.stands self.old start found
             → IfOk result (λ notes. notes ≡ due start found now) }
         ensures delivered { IfOk result (λ notes. IfSome notes AllGoOut) }
         ensures stays { OnErr result (self.new ≡ self.old) }
@@ -150,21 +164,21 @@ impl Served {
 
     /// Tells the server to stop.
     pub(crate) fn stop(&mut self)
-        ensures { (start : Start) (found : List Command) → Stands self.old start found → Stands self.new start (Stops ∷ found) }
+        ensures { (start : Start) (found : List Command) → Stands V.stands self.old start found → Stands V.stands self.new start (Stops ∷ found) }
     {
         self.server.stop();
     }
 
     /// Returns the UUID of the device that the server is.
     pub fn device_name(&self) -> Uuid
-        ensures { (start : Start) (found : List Command) → Stands self.now start found → result ≡ device_name (names_of start) }
+        ensures { (start : Start) (found : List Command) → Stands V.stands self.now start found → result ≡ device_name (names_of start) }
     {
         self.server.device_name()
     }
 
     /// Returns whether the server was told to stop.
     pub fn stopped(&self) -> bool
-        ensures { (start : Start) (found : List Command) → Stands self.now start found → result ≡ is_stopped found }
+        ensures { (start : Start) (found : List Command) → Stands V.stands self.now start found → result ≡ is_stopped found }
     {
         self.server.stopped()
     }

@@ -8,6 +8,7 @@ ghost use Rattle.cds_serve.specs.Jobs.{AddsAnswers, EndsWorking};
 use crate::connection::serve_one;
 use crate::served::Served;
 use cds_outside::{Clock, Door, Folder, Gate, Job, Link};
+use cds_server::Server;
 use cds_ssdp::Device;
 use cds_turn::{Seat, Turn};
 use std::alloc::Global;
@@ -37,8 +38,8 @@ pub struct Post<D, T, L, G, F> {
 pub struct Worker<R, D, T, L, G, F> {
     pub rt: R,
     pub alloc: Global,
-    pub turn: Arc<Turn<Served>>,
-    pub seat: Seat<Served>,
+    pub turn: Arc<Turn<Served<Server>>>,
+    pub seat: Seat<Served<Server>>,
     pub post: Post<D, T, L, G, F>,
     ghost own: { IsSeatOf (arc_value turn) seat },
 }
@@ -48,7 +49,7 @@ pub struct Worker<R, D, T, L, G, F> {
 pub struct Worked<D, F> {
     pub door: D,
     pub folder: F,
-    pub seat: Seat<Served>,
+    pub seat: Seat<Served<Server>>,
     /// How many connections its door gave; it was to serve each of them. They are fewer than its share only if the door failed.
     pub served: u32,
 }
@@ -114,8 +115,8 @@ fn ends_of<D, T: Drop, L: Drop, G: Drop, F>(post: Post<D, T, L, G, F>) -> (D, F)
 fn serve_share<R: Wait, D: Door, T: Clock, L: Link, G: Gate, F: Folder>(
     rt: &R,
     alloc: Global,
-    turn: &Turn<Served>,
-    seat: &mut Seat<Served>,
+    turn: &Turn<Served<Server>>,
+    seat: &mut Seat<Served<Server>>,
     post: &mut Post<D, T, L, G, F>,
 ) -> u32
     requires { IsSeatOf turn.now seat.old }

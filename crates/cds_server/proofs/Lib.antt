@@ -9,6 +9,7 @@ pub mod Routes
 pub mod Asks
 pub mod Makes
 pub mod Handled
+pub mod Takes
 pub mod Ticked
 pub mod Heads
 pub mod Short

@@ -4,6 +4,7 @@ pub mod Published
 pub mod Outcome
 pub mod Due
 pub mod Serving
+pub mod Taking
 pub mod Replies
 pub mod Asking
 pub mod Laws

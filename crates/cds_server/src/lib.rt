@@ -13,6 +13,7 @@ mod reading;
 mod replying;
 mod routing;
 mod server;
+mod serving;
 mod ticking;
 
 pub use asking::{Asking, EventRequest, Route};
@@ -24,3 +25,4 @@ pub use reading::read_asked;
 pub use replying::write_made;
 pub use routing::route;
 pub use server::Server;
+pub use serving::{Serving, TakeError};

@@ -8,6 +8,7 @@ use crate::made::{MEMORY, clock, device, folder, link};
 use cds_memory::{MemClock, MemConn, MemFolder, MemLink};
 use cds_outside::NoGate;
 use cds_serve::{Served, notify_once, scan_once, serve_one};
+use cds_server::Server;
 use cds_ssdp::Device;
 use cds_turn::{Seat, Turn};
 use std::alloc::Global;
@@ -17,8 +18,8 @@ use std::sync::{Arc, Wait};
 /// A server with its only seat, and a clock, a link, a device and a folder for it.
 #[derive(Drop)]
 pub struct Desk {
-    turn: Arc<Turn<Served>>,
-    seat: Seat<Served>,
+    turn: Arc<Turn<Served<Server>>>,
+    seat: Seat<Served<Server>>,
     pub clock: MemClock,
     pub link: MemLink,
     pub last: u64,
@@ -29,7 +30,11 @@ pub struct Desk {
 }
 
 /// Makes a server that has done nothing yet, and one seat with all of its passes.
-pub fn server<R: Abort>(rt: &R, alloc: Global, seats: u32) -> (Arc<Turn<Served>>, Seat<Served>)
+pub fn server<R: Abort>(
+    rt: &R,
+    alloc: Global,
+    seats: u32,
+) -> (Arc<Turn<Served<Server>>>, Seat<Served<Server>>)
     requires { 1 ≤ seats }
     ensures seat { IsSeatOf (arc_value result.0) result.1 }
     ensures passes { passes_of result.1 ≡ seats }
@@ -50,8 +55,8 @@ impl Desk {
     pub fn of<R: Abort>(
         rt: &R,
         alloc: Global,
-        turn: Arc<Turn<Served>>,
-        seat: Seat<Served>,
+        turn: Arc<Turn<Served<Server>>>,
+        seat: Seat<Served<Server>>,
         moments: &[u64],
         fails: u32,
     ) -> Self

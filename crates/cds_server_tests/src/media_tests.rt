@@ -1,7 +1,7 @@
 //! Tests of requests for files and for documents.
 
 use crate::desk::Desk;
-use crate::made::{MEMORY, conn, folder_item, is_good, text_of, tree};
+use crate::made::{MEMORY, conn, folder_item, text_of, tree};
 use cds_base::{Bytes, Numbers, Sequence};
 use cds_memory::{MemFolder, MemItem};
 use std::alloc::Global;
@@ -335,22 +335,24 @@ fn wrong_ranges_are_passed_over(rt: HostRuntime) {
     }
 }
 
-/// Returns whether a request for a document is answered with this text.
-fn is_described<R: Wait + Abort>(rt: &R, alloc: Global, request: &str, text: &str) -> bool {
-    let mut desk = Desk::new(rt, alloc, &[], 0);
-    let mut conn = conn(rt, alloc, request.as_bytes(), 0, 0);
-    desk.serve(rt, alloc, &mut conn);
-    is_good(conn.written()) && conn.written().ends_with(text.as_bytes())
-}
+/// Requests for a document, and the whole replies.
+const DOCUMENTS: [(&str, &str); 2] = [
+    (
+        "GET /device.xml HTTP/1.1\r\nHOST: h\r\n\r\n",
+        "HTTP/1.1 200 OK\r\nEXT:\r\nSERVER: unix/1.0 UPnP/2.0 cds/1.0\r\nCONTENT-TYPE: text/xml; charset=\"utf-8\"\r\nCONTENT-LENGTH: 633\r\nCONNECTION: close\r\n\r\n<?xml version=\"1.0\"?><root xmlns=\"urn:schemas-upnp-org:device-1-0\"><specVersion><major>2</major><minor>0</minor></specVersion><device><deviceType>urn:schemas-upnp-org:device:MediaServer:4</deviceType><friendlyName>cds</friendlyName><manufacturer>cds</manufacturer><modelName>cds</modelName><UDN>uuid:00000000-0000-8000-8000-000000000000</UDN><serviceList><service><serviceType>urn:schemas-upnp-org:service:ContentDirectory:4</serviceType><serviceId>urn:upnp-org:serviceId:ContentDirectory</serviceId><SCPDURL>/cds.xml</SCPDURL><controlURL>/control</controlURL><eventSubURL>/event</eventSubURL></service></serviceList></device></root>",
+    ),
+    (
+        "GET /cds.xml HTTP/1.1\r\nHOST: h\r\n\r\n",
+        "HTTP/1.1 200 OK\r\nEXT:\r\nSERVER: unix/1.0 UPnP/2.0 cds/1.0\r\nCONTENT-TYPE: text/xml; charset=\"utf-8\"\r\nCONTENT-LENGTH: 2312\r\nCONNECTION: close\r\n\r\n<?xml version=\"1.0\"?><scpd xmlns=\"urn:schemas-upnp-org:service-1-0\"><specVersion><major>2</major><minor>0</minor></specVersion><actionList><action><name>Browse</name><argumentList><argument><name>ObjectID</name><direction>in</direction></argument><argument><name>BrowseFlag</name><direction>in</direction></argument><argument><name>Filter</name><direction>in</direction></argument><argument><name>StartingIndex</name><direction>in</direction></argument><argument><name>RequestedCount</name><direction>in</direction></argument><argument><name>SortCriteria</name><direction>in</direction></argument><argument><name>Result</name><direction>out</direction></argument><argument><name>NumberReturned</name><direction>out</direction></argument><argument><name>TotalMatches</name><direction>out</direction></argument><argument><name>UpdateID</name><direction>out</direction></argument></argumentList></action><action><name>Search</name><argumentList><argument><name>ContainerID</name><direction>in</direction></argument><argument><name>SearchCriteria</name><direction>in</direction></argument><argument><name>Filter</name><direction>in</direction></argument><argument><name>StartingIndex</name><direction>in</direction></argument><argument><name>RequestedCount</name><direction>in</direction></argument><argument><name>SortCriteria</name><direction>in</direction></argument><argument><name>Result</name><direction>out</direction></argument><argument><name>NumberReturned</name><direction>out</direction></argument><argument><name>TotalMatches</name><direction>out</direction></argument><argument><name>UpdateID</name><direction>out</direction></argument></argumentList></action><action><name>GetSystemUpdateID</name><argumentList><argument><name>Id</name><direction>out</direction></argument></argumentList></action><action><name>GetServiceResetToken</name><argumentList><argument><name>ResetToken</name><direction>out</direction></argument></argumentList></action><action><name>GetSearchCapabilities</name><argumentList><argument><name>SearchCaps</name><direction>out</direction></argument></argumentList></action><action><name>GetSortCapabilities</name><argumentList><argument><name>SortCaps</name><direction>out</direction></argument></argumentList></action></actionList><serviceStateTable></serviceStateTable></scpd>",
+    ),
+];
 
 #[test]
 fn documents_are_sent(rt: HostRuntime) {
-    let alloc = rt.alloc();
-    let request = "GET /device.xml HTTP/1.1\r\nHOST: h\r\n\r\n";
-    let device =
-        "<UDN>uuid:00000000-0000-8000-8000-000000000000</UDN><serviceList><service><serviceType>urn:schemas-upnp-org:service:ContentDirectory:4</serviceType><serviceId>urn:upnp-org:serviceId:ContentDirectory</serviceId><SCPDURL>/cds.xml</SCPDURL><controlURL>/control</controlURL><eventSubURL>/event</eventSubURL></service></serviceList></device></root>";
-    assert!(rt; is_described(&rt, alloc, request, device), "the device");
-    let request = "GET /cds.xml HTTP/1.1\r\nHOST: h\r\n\r\n";
-    let service = "</actionList><serviceStateTable></serviceStateTable></scpd>";
-    assert!(rt; is_described(&rt, alloc, request, service), "the service");
+    let mut desk = Desk::new(&rt, rt.alloc(), &[], 0);
+    for (request, reply) in &DOCUMENTS {
+        let mut conn = conn(&rt, rt.alloc(), request.as_bytes(), 0, 0);
+        desk.serve(&rt, rt.alloc(), &mut conn);
+        assert!(rt; conn.written() == reply.as_bytes(), "{request}: the reply");
+    }
 }

@@ -10,6 +10,7 @@ use cds_base::Numbers;
 use cds_memory::{MemClock, MemFolder, MemSpawner};
 use cds_outside::{Job, NoGate, Spawner};
 use cds_serve::{Scanned, Scanner, Served, scan_once};
+use cds_server::Server;
 use cds_turn::{Seat, Turn};
 use std::alloc::Global;
 use std::marker::Send;
@@ -56,8 +57,8 @@ impl<R: Wait + Send + Drop + 'static> Job for Once<R> {
 fn scan_over<R: Wait>(
     rt: &R,
     alloc: Global,
-    turn: &Turn<Served>,
-    seat: &mut Seat<Served>,
+    turn: &Turn<Served<Server>>,
+    seat: &mut Seat<Served<Server>>,
     folder: &mut MemFolder,
     clock: &mut MemClock,
 ) -> u64
@@ -70,7 +71,7 @@ fn scan_over<R: Wait>(
 }
 
 /// Returns the seat of a job if its scan was accepted.
-fn accepted_seat(scanned: Scanned<MemFolder>) -> Option<Seat<Served>>
+fn accepted_seat(scanned: Scanned<MemFolder>) -> Option<Seat<Served<Server>>>
     ensures { IfSome result (λ seat. seat ≡ scanned.seat) }
 {
     if scanned.accepted == 1 {
@@ -85,7 +86,7 @@ fn start_once<R: Threads + Wait + Send + Drop + 'static>(
     rt: &R,
     spawner: &mut MemSpawner,
     scanner: Scanner<R, MemFolder, MemClock, NoGate>,
-) -> Option<Seat<Served>>
+) -> Option<Seat<Served<Server>>>
     ensures { IfSome result (λ seat. IsSeatOf (arc_value scanner.turn) seat) }
 {
     match spawner.start(rt, Once { scanner }) {
@@ -99,9 +100,9 @@ fn scan_apart<R: Threads + Wait + Abort + Send + Drop + 'static>(
     rt: &R,
     theirs: R,
     alloc: Global,
-    turn: Arc<Turn<Served>>,
-    seat: Seat<Served>,
-) -> Option<Seat<Served>>
+    turn: Arc<Turn<Served<Server>>>,
+    seat: Seat<Served<Server>>,
+) -> Option<Seat<Served<Server>>>
     requires { IsSeatOf (arc_value turn) seat }
     ensures { IfSome result (λ seat. IsSeatOf (arc_value turn) seat) }
 {
@@ -121,7 +122,11 @@ fn scan_apart<R: Threads + Wait + Abort + Send + Drop + 'static>(
 }
 
 /// Takes in another seat if there is one. Returns whether there is.
-fn join(turn: &Turn<Served>, seat: &mut Seat<Served>, other: Option<Seat<Served>>) -> bool
+fn join(
+    turn: &Turn<Served<Server>>,
+    seat: &mut Seat<Served<Server>>,
+    other: Option<Seat<Served<Server>>>,
+) -> bool
     requires seat { IsSeatOf turn.now seat.old }
     requires other { IfSome other (λ theirs. IsSeatOf turn.now theirs) }
     ensures { IsSeatOf turn.now seat.new }
@@ -139,8 +144,8 @@ fn join(turn: &Turn<Served>, seat: &mut Seat<Served>, other: Option<Seat<Served>
 fn is_scanned<R: Threads + Wait + Abort + Copy + Send + Drop + 'static>(
     rt: R,
     alloc: Global,
-    turn: &Arc<Turn<Served>>,
-    seat: &mut Seat<Served>,
+    turn: &Arc<Turn<Served<Server>>>,
+    seat: &mut Seat<Served<Server>>,
 ) -> bool
     requires seat { IsSeatOf (arc_value turn.now) seat.old }
     requires passes { passes_of seat.old ≡ 2 }

@@ -1,13 +1,7 @@
 use Rattle.std.proofs.Common.{arith}
 use Rattle.cds_markup.specs.Reads.{reading_of}
-use Rattle.cds_markup.proofs.Quiet.{tag_run, begin_run}
+use Rattle.cds_markup.proofs.Quiet.{begin_run}
 use Rattle.cds_markup.proofs.part_reader.Spot.begin_run.Goals as goal
-
-pub returns-then-first-eq60 : goal.returns-then-first-eq60
-returns-then-first-eq60 c =
-    let s = c.args.self.now in
-    rw c.begin_less.ensures
-    (tag_run (reading_of s.cursor.machine) s.marks s.cursor.at c.in-Some.first.now c.args.bytes.now c.in-Some._behind.now c.in-Some.ensures.cases.0 c.if-first-eq60.true c.requires.takes c.requires.none c.requires.room)
 
 pub returns-then-count-gt0 : goal.returns-then-count-gt0
 returns-then-count-gt0 c =
