@@ -4,7 +4,8 @@
 #   against `minidlnad`, where they are there (goal: at least 0.8 of nginx's throughput, at most 1.5 times its processor time);
 # - how much memory the server takes for each of two players (goal: below 256 KiB);
 # - the time of a small Browse beside two players of 2 MiB a second (goal: at most 1.2 times its time alone). Each player is a process
-#   of its own: as threads of the client they would take its processor from it, and not the server's.
+#   of its own: as threads of the client they would take its processor from it, and not the server's. Rounds without players and with
+#   them take turns, since the speed of a machine changes meanwhile.
 # bench/media.sh [MEBIBYTES]. Needs bash, python3, and the program where it is built. CDS may name another program.
 set -eu
 top=$(cd "$(dirname "$0")/.." && pwd)
@@ -143,13 +144,28 @@ def cds(root):
     return server, server.target("/control", "0")
 
 
+# The milliseconds of each of some Browses.
 def waits(server):
     taken = []
-    for _ in range(400):
+    for _ in range(200):
         begun = time.perf_counter()
         server.browse("/control", "0")
         taken.append((time.perf_counter() - begun) * 1000)
-    return statistics.median(taken)
+    return taken
+
+
+# The same beside two players, and how much memory the server then has.
+def waits_beside_players(server, target):
+    players = [multiprocessing.Process(target=server.take, args=(target, 2 << 20)) for _ in range(2)]
+    for player in players:
+        player.start()
+    time.sleep(1)
+    memory = server.memory()
+    taken = waits(server)
+    for player in players:
+        player.terminate()
+        player.join()
+    return taken, memory
 
 
 root = f"{work}/music"
@@ -174,23 +190,18 @@ for name, (rate, used) in middle.items():
     print(f"{name}: {rate:.0f} MiB a second to one client, {used:.2f} s of its processors for {size >> 20} MiB")
 for name in middle:
     if name != "cds":
-        print(f"cds against {name}: {middle['cds'][0] / middle[name][0]:.2f} of its throughput, {middle['cds'][1] / middle[name][1]:.2f} times its processor time")
+        print(f"cds against {name}: {middle['cds'][0] / middle[name][0]:.2f} of its throughput, {middle['cds'][1] / max(middle[name][1], 1 / TICK):.2f} times its processor time")
 for name, (server, _) in peers.items():
     if name != "cds":
         server.finish()
 
 server, target = peers["cds"]
-alone = waits(server)
+waits(server)
 idle = server.memory()
-players = [multiprocessing.Process(target=server.take, args=(target, 2 << 20)) for _ in range(2)]
-for player in players:
-    player.start()
-time.sleep(2)
-each = (server.memory() - idle) / 2
-beside = waits(server)
-for player in players:
-    player.terminate()
-    player.join()
+rounds = [(waits(server), *waits_beside_players(server, target)) for _ in range(RUNS)]
+alone = statistics.median(sum((taken for taken, _, _ in rounds), []))
+beside = statistics.median(sum((taken for _, taken, _ in rounds), []))
+each = (max(memory for _, _, memory in rounds) - idle) / 2
 print(f"memory for each of two players: {each:.0f} KiB (goal: below 256)")
 print(f"a Browse: {alone:.2f} ms alone, {beside:.2f} ms beside two players of 2 MiB a second, {beside / alone:.2f} times that (goal: at most 1.2)")
 server.finish()

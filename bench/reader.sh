@@ -3,7 +3,9 @@
 # - time for each element `<a/>`, each attribute of a tag that has 20,000, without and with a prefix, each of 10,000 `xmlns:` in
 #   a tag, a tag of 20 attributes, and a byte of plain text (goal: a byte of any body at most 5 times one of text);
 # - a byte of rows and of requests against user time of `xmllint --stream --noout` (goal: at most 1.5 times);
-# - peak memory of a tag of 300,000 attributes against its bytes (goal: at most 4 times and 256 KiB).
+# - a byte of white space before, after and inside the root;
+# - peak memory of a tag of 300,000 attributes, without and with a prefix, and of one of 100,000 `xmlns:`, against its bytes (goal:
+#   at most 4 times and 256 KiB).
 # Times are the least of many runs, so that other work on the machine counts little.
 # The program is proved and built in a folder of its own, which takes a quarter of an hour; PROGRAM names one that was built.
 # Needs bash, python3, rt, GNU time (/usr/bin/time) and xmllint.
@@ -134,15 +136,22 @@ for what, document, count in (
     ("one of 20,000 with a prefix", tag('p:{}=""', 20_000, ' xmlns:p="u"'), 20_000),
     ("one of 10,000 declarations of prefixes", tag('xmlns:{}="u"', 10_000), 10_000),
     ("a tag of 20 attributes", "<r>" + tag('{}="1"', 20) * 1_000 + "</r>", 1_000),
+    ("a byte of white space before the root", " " * 100_000 + "<r/>", 100_000),
+    ("a byte of white space after the root", "<r/>" + " " * 100_000, 100_000),
+    ("a byte of white space inside the root", "<r>" + " " * 100_000 + "</r>", 100_000),
 ):
     taken = least(document)
-    print(f"{what}: {taken / count:.0f} ns, {taken / len(document):.1f} a byte, {taken / len(document) / text:.0f} times plain text's (goal: at most 5)")
+    print(f"{what}: {taken / count:.4g} ns, {taken / len(document):.2f} a byte, {taken / len(document) / text:.0f} times plain text's (goal: at most 5)")
 for what, form in (("rows", rows), ("requests", calls)):
     ours = least(form(500)) / len(form(500))
     path = write(form(20_000))
     theirs = min(once(["xmllint", "--noout", "--stream", "-"], path)[1] for _ in range(8)) / os.path.getsize(path) * 1e9
     print(f"a byte of {what}: {ours:.1f} ns, by xmllint --stream {theirs:.1f}: {ours / theirs:.2f} times (goal: at most 1.5)")
-document = tag('{}=""', 300_000)
-peak = memory([program, "1"], write(document))
-print(f"a tag of 300,000 attributes, {len(document)} bytes: {peak / 1e6:.1f} MB at most, {peak / len(document):.0f} times its bytes (goal: at most 4)")
+for what, document in (
+    ("300,000 attributes", tag('{}=""', 300_000)),
+    ("300,000 attributes with a prefix", tag('p:{}=""', 300_000, ' xmlns:p="u"')),
+    ("100,000 declarations of prefixes", tag('xmlns:{}="u"', 100_000)),
+):
+    peak = memory([program, "1"], write(document))
+    print(f"a tag of {what}, {len(document)} bytes: {peak / 1e6:.1f} MB at most, {peak / len(document):.1f} times its bytes (goal: at most 4)")
 PY
