@@ -13,7 +13,7 @@ use Rattle.cds_announce.specs.Announcing.{EndsAnnouncing}
 
 -- The UUID of a device that is given none: the name of number 0 of a server whose boot words are 0.
 abbrev pub first_uuid : List ℕ
-first_uuid = to_be_bytes w128 (name_of (record { high = 0; low = 0; first = 0 }) 0)
+first_uuid = to_be_bytes w128 (name_of (record { high = 0; low = 0; first = 0; wrap = 4294967295 }) 0)
 
 -- The status by how answering ended.
 abbrev pub status_of : {A : Type 0} → Result A DatagramFault → ℕ

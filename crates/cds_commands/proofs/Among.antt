@@ -3,7 +3,7 @@ use Rattle.std.proofs.Common.{◌≡◌, ◌⊎◌, inl, inr, ◌+◌, ◌<◌, 
 use Rattle.std.specs.List.{AllByRecursion, Contains, slice_index_or, range_with_len}
 use Rattle.std.proofs.lemmas.Bool.{cases_lt, eqb-false}
 use Rattle.std.proofs.lemmas.List.Elements.{filter-append}
-use Rattle.cds_commands.specs.Notes.{Note, next_seq_of}
+use Rattle.cds_commands.specs.Notes.{Note, next_place_of}
 
 abbrev pub Among : {X : Type 0} → X → List X → Type 0
 Among x [] = ⊥
@@ -112,12 +112,12 @@ row-among a (suc n) x m = by m (λ b. row-among (a + 1) n x b)
 
 -- ---- notes of a name
 
-pub seq-append : (name : ℕ) (notes others : List Note) → next_seq_of name (notes ++ others) ≡ next_seq_of name notes + next_seq_of name others
+pub seq-append : (name : ℕ) (notes others : List Note) → next_place_of name (notes ++ others) ≡ next_place_of name notes + next_place_of name others
 seq-append name notes others =
     ap length (filter-append (λ (note : Note). nat_eq note.name name) notes others)
     ∙ length-append (filter (λ (note : Note). nat_eq note.name name) notes) (filter (λ (note : Note). nat_eq note.name name) others)
 
-pub seq-among : (notes : List Note) (note : Note) → Among note notes → 1 ≤ next_seq_of note.name notes
+pub seq-among : (notes : List Note) (note : Note) → Among note notes → 1 ≤ next_place_of note.name notes
 seq-among notes note a =
     some (filter (λ (other : Note). nat_eq other.name note.name) notes) (among-filter (λ (other : Note). nat_eq other.name note.name) notes note a (eq-eqb note.name note.name refl))
   where
@@ -126,11 +126,11 @@ seq-among notes note a =
     some (other ∷ found) b = omega arith
 
 -- where no note has a name there is none of it
-pub seq-none : (name : ℕ) (notes : List Note) → ((note : Note) → Among note notes → note.name ≡ name → ⊥) → next_seq_of name notes ≡ 0
+pub seq-none : (name : ℕ) (notes : List Note) → ((note : Note) → Among note notes → note.name ≡ name → ⊥) → next_place_of name notes ≡ 0
 seq-none name [] h = refl
 seq-none name (note ∷ notes) h = by (nat_eq note.name name) refl (seq-none name notes (λ n a e. h n (inr a) e))
   where
-    by : (t : Bool) → nat_eq note.name name ≡ t → next_seq_of name notes ≡ 0
+    by : (t : Bool) → nat_eq note.name name ≡ t → next_place_of name notes ≡ 0
         → length (cond t (note ∷ filter (λ (other : Note). nat_eq other.name name) notes) (filter (λ (other : Note). nat_eq other.name name) notes)) ≡ 0
     by true e r = absurd (h note (inl refl) (eqb-true note.name name e))
     by false e r = r

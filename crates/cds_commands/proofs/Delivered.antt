@@ -1,5 +1,5 @@
 -- The notes of a subscription are its first note and one of each release at which it lived.
-use Rattle.std.proofs.Common.{◌≡◌, ◌⊎◌, inl, inr, ◌+◌, ◌<◌, ◌≤◌, ℕ, zero, suc, Bool, true, false, cond, ◌&&◌, nat_eq, nat_lt, List, [], ◌∷◌, ◌++◌, map, filter, length, Option, Some, None, is_some, refl, sym, ap, ◌∙◌, subst, arith, eq-eqb, ne_eqb}
+use Rattle.std.proofs.Common.{◌≡◌, ◌⊎◌, inl, inr, ◌+◌, ◌<◌, ◌≤◌, ℕ, zero, suc, Bool, true, false, cond, nat_eq, List, [], ◌∷◌, ◌++◌, map, filter, length, Option, Some, None, is_some, refl, sym, ap, ◌∙◌, subst, arith, eq-eqb, ne_eqb}
 use Rattle.std.specs.List.{AllByRecursion, range_with_len}
 use Rattle.std.proofs.lemmas.Bool.{cases_lt}
 use Rattle.std.proofs.lemmas.List.{append-nil}
@@ -11,7 +11,7 @@ use Rattle.cds_changes.proofs.Spans.{spans-stay}
 use Rattle.cds_commands.specs.Commands.{Command, Scans, Grants, Renews, Ends, Ticks, Stops, scans_of}
 use Rattle.cds_commands.specs.Releases.{Release, release_at, releases_of, released_to, release_size}
 use Rattle.cds_commands.specs.Subscriptions.{granted, unless_past, runs_until, is_alive}
-use Rattle.cds_commands.specs.Notes.{Note, next_seq_of, seq_limit, released_note, released_notes, first_note, sent_by, notes_of, sent_to}
+use Rattle.cds_commands.specs.Notes.{Note, next_place_of, released_note, released_notes, first_note, sent_by, notes_of, sent_to}
 use Rattle.cds_commands.specs.SubscriptionLaws.{Lives, and_lived, lived_at, note_of_release, notes_of_releases, notes_are_of_releases, releases_reach_what_lives}
 use Rattle.cds_commands.proofs.Among.{seq-none, among-all}
 use Rattle.cds_commands.proofs.Scanned.{scans-first, dropped-grows}
@@ -118,7 +118,7 @@ lived-ended first name (command ∷ older) = on command (all-more (lived_at firs
     on (Renews moment other seconds) all = all
     on (Ends moment other) all = all
     on (Ticks moment) all =
-        with_one (is_alive name moment older && nat_lt (next_seq_of name (notes_of first older)) seq_limit) moment (release_at moment (scans_of first older) (releases_of first older)) refl all
+        with_one (is_alive name moment older) moment (release_at moment (scans_of first older) (releases_of first older)) refl all
     on Stops all = all
 
 events-stay : (first : ℕ) (command : Command) (older : List Command) (from to : ℕ) → to ≤ end_of (scans_of first older) →
@@ -134,7 +134,7 @@ notes-stay : (first name seq : ℕ) (command : Command) (older : List Command) (
     notes_of_releases (scans_of first (command ∷ older)) name seq releases ≡ notes_of_releases (scans_of first older) name seq releases
 notes-stay first name seq command older [] all = refl
 notes-stay first name seq command older (release ∷ releases) all = λ i.
-    record { name = name; seq = seq; number = release.to; events = events-stay first command older release.from release.to all.0 i }
+    record { name = name; place = seq; number = release.to; events = events-stay first command older release.from release.to all.0 i }
     ∷ notes-stay first name (seq + 1) command older releases all.1 i
 
 -- ---- before its grant a name has no note and lives at no release
@@ -157,7 +157,7 @@ never-lived first name (command ∷ older) high =
     on (Renews moment other seconds) r low = r
     on (Ends moment other) r low = r
     on (Ticks moment) r low =
-        (λ i. and_lived (not-alive name moment older low i && nat_lt (next_seq_of name (notes_of first older)) seq_limit)
+        (λ i. and_lived (not-alive name moment older low i)
         (release_at moment (scans_of first older) (releases_of first older)) (r i))
     on Stops r low = r
 
@@ -192,7 +192,7 @@ module _ (first name number : ℕ) (older : List Command) where
   tick moment low high of = by (release_at moment (scans_of first older) (releases_of first older)) refl of
     where
       p : ℕ → Bool
-      p n = is_alive n moment older && nat_lt (next_seq_of n (notes_of first older)) seq_limit
+      p n = is_alive n moment older
 
       sent : Option Release → List Note
       sent o = released_notes (scans_of first older) o (notes_of first older) (filter p (range_with_len 1 (granted older)))
@@ -215,7 +215,7 @@ module _ (first name number : ℕ) (older : List Command) where
       one release false e is = join (Some release) false e refl is
       one release true e is =
           let lived = lived_at first name older in
-          let seq : next_seq_of name (notes_of first older) ≡ 1 + length lived = ap length is ∙ ap suc (many (scans_of first older) name 1 lived) ∙ omega arith in
+          let seq : next_place_of name (notes_of first older) ≡ 1 + length lived = ap length is ∙ ap suc (many (scans_of first older) name 1 lived) ∙ omega arith in
           filter-append (λ (note : Note). nat_eq note.name name) (notes_of first older) (sent (Some release))
           ∙ (λ i. is i ++ e i)
           ∙ ap (λ (n : ℕ). first_note name number ∷ (notes_of_releases (scans_of first older) name 1 lived ++ note_of_release (scans_of first older) name n release ∷ [])) seq
@@ -288,17 +288,17 @@ lived-where first name moment older release e = (
 )
   where
     p : Bool
-    p = is_alive name moment older && nat_lt (next_seq_of name (notes_of first older)) seq_limit
+    p = is_alive name moment older
 
     at-release : (b : Bool) → p ≡ b → lived_at first name (Ticks moment ∷ older) ≡ and_lived b (Some release) (lived_at first name older)
     at-release b f = λ i. and_lived (f i) (e i) (lived_at first name older)
 
-    lives-now : Lives first name moment older → p ≡ true
-    lives-now lives = lives-test first name moment older lives
+    lives-now : Lives name moment older → p ≡ true
+    lives-now lives = lives-test name moment older lives
 
-    dies-now : (Lives first name moment older → ⊥) → p ≡ false
+    dies-now : (Lives name moment older → ⊥) → p ≡ false
     dies-now dead = by p refl
       where
         by : (b : Bool) → p ≡ b → b ≡ false
-        by true f = absurd (dead (test-lives first name moment older f))
+        by true f = absurd (dead (test-lives name moment older f))
         by false f = refl

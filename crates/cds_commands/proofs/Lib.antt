@@ -9,3 +9,7 @@ pub mod Spanned
 pub mod NamesForm
 pub mod Lives
 pub mod Delivered
+pub mod Places
+pub mod Near
+pub mod Far
+pub mod After

@@ -8,7 +8,7 @@ use Rattle.cds_catalog.specs.History.{History, end_of}
 use Rattle.cds_commands.specs.Commands.{Command, Scans, Grants, Renews, Ends, Ticks, Stops, scans_of}
 use Rattle.cds_commands.specs.Releases.{Release, release_pause, released_to, may_release, release_at, releases_of}
 use Rattle.cds_commands.specs.Subscriptions.{granted, end_after, renewed_until, unless_past, runs_until, is_alive}
-use Rattle.cds_commands.specs.Notes.{next_seq_of, seq_limit, alive_names, notes_of}
+use Rattle.cds_commands.specs.Notes.{alive_names}
 use Rattle.cds_commands.specs.SubscriptionLaws.{lease_end, HasRun, Lives, subscriptions_live_until_their_end, ticks_release_what_is_due}
 use Rattle.cds_commands.proofs.Among.{Among, among-contained, among-filter, filter-among, among-row}
 use Rattle.cds_commands.proofs.Sent.{granted-more, first-is}
@@ -197,38 +197,33 @@ has-end now (Some end) e = by (nat_lt now end) refl e
     by true t f = (end, refl, ltb-true now end t)
     by false t f = absurd (true≢false (sym f))
 
-abbrev pub passes : ℕ → ℕ → List Command → ℕ → Bool
-passes first now commands n = is_alive n now commands && nat_lt (next_seq_of n (notes_of first commands)) seq_limit
+abbrev pub passes : ℕ → List Command → ℕ → Bool
+passes now commands n = is_alive n now commands
 
 -- what is tested of a name says that it lives, and the other way round
-pub test-lives : (first name now : ℕ) (commands : List Command) → passes first now commands name ≡ true → Lives first name now commands
-test-lives first name now commands e =
-    let b = both (is_alive name now commands) (nat_lt (next_seq_of name (notes_of first commands)) seq_limit) e in
-    let end = has-end now (runs_until name commands) b.0 in
-    (end.0, has-run name end.0 commands end.1, end.2, ltb-true (next_seq_of name (notes_of first commands)) seq_limit b.1)
+pub test-lives : (name now : ℕ) (commands : List Command) → passes now commands name ≡ true → Lives name now commands
+test-lives name now commands e = let end = has-end now (runs_until name commands) e in (end.0, has-run name end.0 commands end.1, end.2)
 
-pub lives-test : (first name now : ℕ) (commands : List Command) → Lives first name now commands → passes first now commands name ≡ true
-lives-test first name now commands (end, run, before, room) =
-    let alive : is_alive name now commands ≡ true =
-    ap (λ o. is_some (unless_past now o)) (runs name end commands run) ∙ ap (λ b. is_some (cond b (Some end) None)) (lt-ltb now end before) in
-    (λ i. alive i && lt-ltb (next_seq_of name (notes_of first commands)) seq_limit room i)
+pub lives-test : (name now : ℕ) (commands : List Command) → Lives name now commands → passes now commands name ≡ true
+lives-test name now commands (end, run, before) =
+    ap (λ o. is_some (unless_past now o)) (runs name end commands run) ∙ ap (λ b. is_some (cond b (Some end) None)) (lt-ltb now end before)
 
-lives-found : (first name now : ℕ) (commands : List Command) → Contains (alive_names now commands (notes_of first commands)) name → Lives first name now commands
-lives-found first name now commands c =
-    let f = filter-among (passes first now commands) (range_with_len 1 (granted commands)) name (among-contained (alive_names now commands (notes_of first commands)) name c) in
-    test-lives first name now commands f.1
+lives-found : (name now : ℕ) (commands : List Command) → Contains (alive_names now commands) name → Lives name now commands
+lives-found name now commands c =
+    let f = filter-among (passes now commands) (range_with_len 1 (granted commands)) name (among-contained (alive_names now commands) name c) in
+    test-lives name now commands f.1
 
-found-lives : (first name now : ℕ) (commands : List Command) → Lives first name now commands → Contains (alive_names now commands (notes_of first commands)) name
-found-lives first name now commands lives =
+found-lives : (name now : ℕ) (commands : List Command) → Lives name now commands → Contains (alive_names now commands) name
+found-lives name now commands lives =
     let within = named-within name lives.0 commands lives.1 in
     let low = within.0 in
     let high = within.1 in
-    among-contains (alive_names now commands (notes_of first commands)) name
-    (among-filter (passes first now commands) (range_with_len 1 (granted commands)) name (among-row 1 (granted commands) name low (omega (arith, high)))
-    (lives-test first name now commands lives))
+    among-contains (alive_names now commands) name
+    (among-filter (passes now commands) (range_with_len 1 (granted commands)) name (among-row 1 (granted commands) name low (omega (arith, high)))
+    (lives-test name now commands lives))
 
 pub live-until : subscriptions_live_until_their_end
-live-until first name now commands = (lives-found first name now commands, found-lives first name now commands)
+live-until name now commands = (lives-found name now commands, found-lives name now commands)
 
 -- ---- ticks
 

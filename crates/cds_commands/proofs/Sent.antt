@@ -1,5 +1,5 @@
 -- What holds of the notes that commands send: their names, SEQs, numbers and events.
-use Rattle.std.proofs.Common.{◌≡◌, ◌⊎◌, inl, inr, ◌+◌, ◌<◌, ◌≤◌, ℕ, zero, suc, Bool, true, false, cond, ◌&&◌, nat_eq, nat_lt, nat_le, List, [], ◌∷◌, ◌++◌, map, drop, Option, Some, None, is_some, refl, sym, ap, ◌∙◌, subst, arith, true≢false, eqb-true, ne_eqb, ltb-true, lt-ltb, leb-false}
+use Rattle.std.proofs.Common.{◌≡◌, ◌⊎◌, inl, inr, ◌+◌, ◌<◌, ◌≤◌, ℕ, zero, suc, Bool, true, false, cond, ◌&&◌, nat_eq, nat_lt, nat_le, List, [], ◌∷◌, ◌++◌, map, drop, Option, Some, None, is_some, refl, sym, ap, ◌∙◌, subst, arith, true≢false, eqb-true, ne_eqb, leb-false}
 use Rattle.std.specs.List.{AllByRecursion, range_with_len}
 use Rattle.std.proofs.lemmas.Bool.{cases_lt, eqb-false}
 use Rattle.cds_catalog.specs.Library.{FolderMap}
@@ -11,7 +11,7 @@ use Rattle.cds_changes.proofs.Spans.{spans-stay}
 use Rattle.cds_commands.specs.Commands.{Command, Scans, Grants, Renews, Ends, Ticks, Stops, scans_of}
 use Rattle.cds_commands.specs.Releases.{Release, release_size, released_to, may_release, scan_end_within, release_at, and_release, releases_of}
 use Rattle.cds_commands.specs.Subscriptions.{granted, end_after, renewed_until, unless_past, runs_until, is_alive}
-use Rattle.cds_commands.specs.Notes.{Note, next_seq_of, seq_limit, alive_names, released_note, released_notes, first_note, sent_by, notes_of}
+use Rattle.cds_commands.specs.Notes.{Note, next_place_of, alive_names, released_note, released_notes, first_note, sent_by, notes_of}
 use Rattle.cds_commands.proofs.Among.{Among, among-all, all-among, among-append, among-map, among-filter, filter-among, among-row, row-among, seq-append, seq-among, seq-none}
 use Rattle.cds_commands.proofs.Scanned.{scans-first, Grows, dropped-grows}
 
@@ -130,17 +130,17 @@ released-stood first (Ticks moment ∷ older) = by (release_at moment (scans_of 
 
 -- how the last release stands to a note: it does not go past the note's number, and ends there but for a first note
 abbrev pub Reaches : ℕ → Note → Type 0
-Reaches released note = (released ≤ note.number) × ((note.seq ≡ 0) ⊎ (released ≡ note.number))
+Reaches released note = (released ≤ note.number) × ((note.place ≡ 0) ⊎ (released ≡ note.number))
 
 -- a note that a command sends after the older ones, with so many names granted after it, and all released up to a number
 pub record Fresh (first : ℕ) (older : List Command) (names after : ℕ) (note : Note) : Type 0 where
   pub named : 1 ≤ note.name
   pub known : note.name ≤ names
-  pub seq : note.seq ≡ next_seq_of note.name (notes_of first older)
+  pub place : note.place ≡ next_place_of note.name (notes_of first older)
   pub stood : Stood first older note.number
-  pub begins : note.seq ≡ 0 → note.events ≡ []
+  pub begins : note.place ≡ 0 → note.events ≡ []
   pub reaches : Reaches after note
-  pub follows : 0 < note.seq → (is_some (runs_until note.name older) ≡ true) × (next_seq_of note.name (notes_of first older) < seq_limit)
+  pub follows : 0 < note.place → (is_some (runs_until note.name older) ≡ true)
       × (note.events ≡ events_between (scans_of first older) (released_to first (releases_of first older)) note.number)
       × (released_to first (releases_of first older) ≤ note.number)
 
@@ -148,15 +148,11 @@ pub record Fresh (first : ℕ) (older : List Command) (names after : ℕ) (note 
 pub record Sound (first : ℕ) (commands : List Command) (note : Note) : Type 0 where
   pub named : 1 ≤ note.name
   pub known : note.name ≤ granted commands
-  pub counted : note.seq < next_seq_of note.name (notes_of first commands)
+  pub counted : note.place < next_place_of note.name (notes_of first commands)
   pub stood : Stood first commands note.number
-  pub begins : note.seq ≡ 0 → note.events ≡ []
-  pub latest : note.seq + 1 ≡ next_seq_of note.name (notes_of first commands) → next_seq_of note.name (notes_of first commands) < seq_limit
+  pub begins : note.place ≡ 0 → note.events ≡ []
+  pub latest : note.place + 1 ≡ next_place_of note.name (notes_of first commands)
       → is_some (runs_until note.name commands) ≡ true → Reaches (released_to first (releases_of first commands)) note
-
-both-hold : (a b : Bool) → a && b ≡ true → (a ≡ true) × (b ≡ true)
-both-hold true b e = (refl, e)
-both-hold false b e = absurd (true≢false (sym e))
 
 past-runs : (moment : ℕ) (o : Option ℕ) → is_some (unless_past moment o) ≡ true → is_some o ≡ true
 past-runs moment None e = e
@@ -165,14 +161,13 @@ past-runs moment (Some end) e = refl
 -- of a name that was granted: where a command sends it no note and it still runs, it ran before, and nothing was released
 Silent : ℕ → List Command → Command → ℕ → Type 0
 Silent first older command name =
-    next_seq_of name (sent_by first older (notes_of first older) command) ≡ 0 → is_some (runs_until name (command ∷ older)) ≡ true
-    → next_seq_of name (notes_of first older) < seq_limit
+    next_place_of name (sent_by first older (notes_of first older) command) ≡ 0 → is_some (runs_until name (command ∷ older)) ≡ true
     → (is_some (runs_until name older) ≡ true) × (released_to first (releases_of first (command ∷ older)) ≡ released_to first (releases_of first older))
 
 silent : (first : ℕ) (older : List Command) (command : Command) (name : ℕ) → 1 ≤ name → name ≤ granted older → Silent first older command name
 unfolding Silent
-silent first older (Scans library) name low high none runs room = (runs, refl)
-silent first older (Grants moment callback seconds) name low high none runs room = (
+silent first older (Scans library) name low high none runs = (runs, refl)
+silent first older (Grants moment callback seconds) name low high none runs = (
   by (nat_eq name (granted older + 1)) (ne_eqb name (granted older + 1) (λ e. omega (arith, e, high))) runs,
   refl,
 )
@@ -180,7 +175,7 @@ silent first older (Grants moment callback seconds) name low high none runs room
     by : (b : Bool) → b ≡ false → is_some (cond b (Some (end_after moment seconds)) (runs_until name older)) ≡ true → is_some (runs_until name older) ≡ true
     by true e k = absurd (true≢false e)
     by false e k = k
-silent first older (Renews moment other seconds) name low high none runs room = (by (nat_eq name other) runs, refl)
+silent first older (Renews moment other seconds) name low high none runs = (by (nat_eq name other) runs, refl)
   where
     still : (o : Option ℕ) → is_some (renewed_until (end_after moment seconds) o) ≡ true → is_some o ≡ true
     still None k = k
@@ -189,41 +184,41 @@ silent first older (Renews moment other seconds) name low high none runs room = 
     by : (b : Bool) → is_some (cond b (renewed_until (end_after moment seconds) (runs_until name older)) (runs_until name older)) ≡ true → is_some (runs_until name older) ≡ true
     by true k = still (runs_until name older) k
     by false k = k
-silent first older (Ends moment other) name low high none runs room = (by (nat_eq name other) runs, refl)
+silent first older (Ends moment other) name low high none runs = (by (nat_eq name other) runs, refl)
   where
     by : (b : Bool) → is_some (cond b None (runs_until name older)) ≡ true → is_some (runs_until name older) ≡ true
     by true k = absurd (true≢false (sym k))
     by false k = k
-silent first older Stops name low high none runs room = (runs, refl)
-silent first older (Ticks moment) name low high none runs room =
+silent first older Stops name low high none runs = (runs, refl)
+silent first older (Ticks moment) name low high none runs =
     (past-runs moment (runs_until name older) runs, by (release_at moment (scans_of first older) (releases_of first older)) none)
   where
-    among : Among name (alive_names moment older (notes_of first older))
+    among : Among name (alive_names moment older)
     among =
-        among-filter (λ (n : ℕ). is_alive n moment older && nat_lt (next_seq_of n (notes_of first older)) seq_limit) (range_with_len 1 (granted older)) name
+        among-filter (λ (n : ℕ). is_alive n moment older) (range_with_len 1 (granted older)) name
         (among-row 1 (granted older) name low (omega (arith, high)))
-        (λ i. runs i && lt-ltb (next_seq_of name (notes_of first older)) seq_limit room i)
+        runs
 
     by : (o : Option Release)
-        → next_seq_of name (released_notes (scans_of first older) o (notes_of first older) (alive_names moment older (notes_of first older))) ≡ 0
+        → next_place_of name (released_notes (scans_of first older) o (notes_of first older) (alive_names moment older)) ≡ 0
         → released_to first (and_release o (releases_of first older)) ≡ released_to first (releases_of first older)
     by None e = refl
     by (Some release) e =
-        let some = seq-among (map (released_note (scans_of first older) release (notes_of first older)) (alive_names moment older (notes_of first older)))
+        let some = seq-among (map (released_note (scans_of first older) release (notes_of first older)) (alive_names moment older))
         (released_note (scans_of first older) release (notes_of first older) name)
-        (among-map (released_note (scans_of first older) release (notes_of first older)) (alive_names moment older (notes_of first older)) name among) in
+        (among-map (released_note (scans_of first older) release (notes_of first older)) (alive_names moment older) name among) in
         let no : ⊥ = omega (arith, some, e) in
         absurd no
 
 fresh : (first : ℕ) (older : List Command) (command : Command) → AllByRecursion (Sound first older) (notes_of first older)
-    → ((name : ℕ) → 1 ≤ name → name ≤ granted older → 1 ≤ next_seq_of name (notes_of first older))
+    → ((name : ℕ) → 1 ≤ name → name ≤ granted older → 1 ≤ next_place_of name (notes_of first older))
     → AllByRecursion (Fresh first older (granted (command ∷ older)) (released_to first (releases_of first (command ∷ older)))) (sent_by first older (notes_of first older) command)
 fresh first older (Scans library) sound some = tt
 fresh first older (Grants moment callback seconds) sound some = (
   record {
     named = omega arith;
     known = omega arith;
-    seq = sym (seq-none (granted older + 1) (notes_of first older)
+    place = sym (seq-none (granted older + 1) (notes_of first older)
         (λ note a e. let known = (among-all (Sound first older) (notes_of first older) note sound a).known in omega (arith, known, e)));
     stood = (0, refl);
     begins = λ e. refl;
@@ -241,17 +236,16 @@ fresh first older (Ticks moment) sound some = by (release_at moment (scans_of fi
     released = released_to first (releases_of first older)
 
     names : List ℕ
-    names = alive_names moment older (notes_of first older)
+    names = alive_names moment older
 
     one : (release : Release) → release_at moment (scans_of first older) (releases_of first older) ≡ Some release → (name : ℕ) → Among name names
-        → (1 ≤ name) × (name ≤ granted older) × (is_some (runs_until name older) ≡ true) × (next_seq_of name (notes_of first older) < seq_limit)
+        → (1 ≤ name) × (name ≤ granted older) × (is_some (runs_until name older) ≡ true)
         × (release.from ≡ released) × Stood first older release.to × (released ≤ release.to)
     one release e name a =
-        let f = filter-among (λ (n : ℕ). is_alive n moment older && nat_lt (next_seq_of n (notes_of first older)) seq_limit) (range_with_len 1 (granted older)) name a in
+        let f = filter-among (λ (n : ℕ). is_alive n moment older) (range_with_len 1 (granted older)) name a in
         let row = row-among 1 (granted older) name f.0 in
         let low = row.0 in
         let high = row.1 in
-        let both = both-hold (is_alive name moment older) (nat_lt (next_seq_of name (notes_of first older)) seq_limit) f.1 in
         let is = release-is first moment (scans_of first older) (releases_of first older) release (first-is first older) e in
         let stood = released-stood first older in
         let end = stood.1 in
@@ -259,8 +253,7 @@ fresh first older (Ticks moment) sound some = by (release_at moment (scans_of fi
         let to = is.1 in (
           low,
           omega (arith, high),
-          past-runs moment (runs_until name older) both.0,
-          ltb-true (next_seq_of name (notes_of first older)) seq_limit both.1,
+          past-runs moment (runs_until name older) f.1,
           is.0,
           subst (Stood first older) (sym to) (within-stood first (released + release_size) older),
           omega (arith, least, to, end),
@@ -278,11 +271,11 @@ fresh first older (Ticks moment) sound some = by (release_at moment (scans_of fi
         record {
           named = is.0;
           known = is.1;
-          seq = refl;
-          stood = is.5;
+          place = refl;
+          stood = is.4;
           begins = λ none. let no : ⊥ = omega (arith, none, many) in absurd no;
           reaches = (omega arith, inr refl);
-          follows = λ l. (is.2, is.3, ap (λ (from : ℕ). events_between (scans_of first older) from release.to) is.4, is.6);
+          follows = λ l. (is.2, ap (λ (from : ℕ). events_between (scans_of first older) from release.to) is.3, is.5);
         }))
 
 -- ---- all notes
@@ -296,7 +289,7 @@ granted-more Stops older = omega arith
 granted-more (Ticks moment) older = omega arith
 
 -- each name that was granted has a note
-pub some-older : (first : ℕ) (commands : List Command) (name : ℕ) → 1 ≤ name → name ≤ granted commands → 1 ≤ next_seq_of name (notes_of first commands)
+pub some-older : (first : ℕ) (commands : List Command) (name : ℕ) → 1 ≤ name → name ≤ granted commands → 1 ≤ next_place_of name (notes_of first commands)
 some-older first [] name low high = let no : ⊥ = omega (arith, low, high) in absurd no
 some-older first (Scans library ∷ older) name low high = let more = seq-append name (notes_of first older) [] in let r = some-older first older name low high in omega (arith, more, r)
 some-older first (Renews moment other seconds ∷ older) name low high = let more = seq-append name (notes_of first older) [] in let r = some-older first older name low high in omega (arith, more, r)
@@ -316,11 +309,11 @@ some-older first (Grants moment callback seconds ∷ older) name low high = by (
         on (inl l) = let same : name ≡ granted older + 1 = omega (arith, l, high) in absurd (d same)
         on (inr l) = l
 
-    by : (b : Bool) → nat_eq name (granted older + 1) ≡ b → (name ≤ granted older → 1 ≤ next_seq_of name (notes_of first older))
-        → 1 ≤ next_seq_of name (notes_of first older ++ note ∷ [])
+    by : (b : Bool) → nat_eq name (granted older + 1) ≡ b → (name ≤ granted older → 1 ≤ next_place_of name (notes_of first older))
+        → 1 ≤ next_place_of name (notes_of first older ++ note ∷ [])
     by true e r =
         let same : granted older + 1 ≡ name = sym (eqb-true name (granted older + 1) e) in
-        let one = subst (λ (n : ℕ). 1 ≤ next_seq_of n (note ∷ [])) same (seq-among (note ∷ []) note (inl refl)) in
+        let one = subst (λ (n : ℕ). 1 ≤ next_place_of n (note ∷ [])) same (seq-among (note ∷ []) note (inl refl)) in
         let more = seq-append name (notes_of first older) (note ∷ []) in
         omega (arith, more, one)
     by false e r =
@@ -341,11 +334,10 @@ old-sound first command older note sound =
       counted = omega (arith, more, counted);
       stood = stood-later first command older note.number sound.stood;
       begins = sound.begins;
-      latest = λ last room runs.
-          let none : next_seq_of note.name (sent_by first older (notes_of first older) command) ≡ 0 = omega (arith, more, counted, last) in
-          let low : next_seq_of note.name (notes_of first older) < seq_limit = omega (arith, more, room) in
-          let still = silent first older command note.name sound.named sound.known none runs low in
-          subst (λ (r : ℕ). Reaches r note) (sym still.1) (sound.latest (omega (arith, more, counted, last)) low still.0);
+      latest = λ last runs.
+          let none : next_place_of note.name (sent_by first older (notes_of first older) command) ≡ 0 = omega (arith, more, counted, last) in
+          let still = silent first older command note.name sound.named sound.known none runs in
+          subst (λ (r : ℕ). Reaches r note) (sym still.1) (sound.latest (omega (arith, more, counted, last)) still.0);
     }
 
 new-sound : (first : ℕ) (command : Command) (older : List Command) (note : Note) → Among note (sent_by first older (notes_of first older) command)
@@ -353,14 +345,14 @@ new-sound : (first : ℕ) (command : Command) (older : List Command) (note : Not
 new-sound first command older note a fresh =
     let more = seq-append note.name (notes_of first older) (sent_by first older (notes_of first older) command) in
     let one = seq-among (sent_by first older (notes_of first older) command) note a in
-    let seq = fresh.seq in
+    let seq = fresh.place in
     record {
       named = fresh.named;
       known = fresh.known;
       counted = omega (arith, more, one, seq);
       stood = stood-later first command older note.number fresh.stood;
       begins = fresh.begins;
-      latest = λ last room runs. fresh.reaches;
+      latest = λ last runs. fresh.reaches;
     }
 
 pub all-sound : (first : ℕ) (commands : List Command) → AllByRecursion (Sound first commands) (notes_of first commands)
@@ -387,7 +379,7 @@ pub record Follows (first : ℕ) (commands : List Command) (before note : Note) 
   pub from : ℕ
   pub events : note.events ≡ events_between (scans_of first commands) from note.number
   pub below : from ≤ before.number
-  pub continues : (before.seq ≡ 0) ⊎ (from ≡ before.number)
+  pub continues : (before.place ≡ 0) ⊎ (from ≡ before.number)
   pub ends : from ≤ note.number
 
 follows-later : (first : ℕ) (command : Command) (older : List Command) (before note : Note) → Stood first older note.number → Follows first older before note → Follows first (command ∷ older) before note
@@ -409,7 +401,7 @@ follows-later first command older before note stood f = record {
         ∙ (λ i. events_between (sym (scans-first first older) i) f.from note.number))
 
 pub follows-all : (first : ℕ) (commands : List Command) (before note : Note) → Among before (notes_of first commands) → Among note (notes_of first commands)
-    → before.name ≡ note.name → before.seq + 1 ≡ note.seq → Follows first commands before note
+    → before.name ≡ note.name → before.place + 1 ≡ note.place → Follows first commands before note
 follows-all first [] before note a b named next = absurd a
 follows-all first (command ∷ older) before note a b named next =
     by (among-append (notes_of first older) sent before a) (among-append (notes_of first older) sent note b) (λ c d. follows-all first older before note c d named next)
@@ -423,34 +415,33 @@ follows-all first (command ∷ older) before note a b named next =
     new : (n : Note) → Among n sent → Fresh first older (granted (command ∷ older)) (released_to first (releases_of first (command ∷ older))) n
     new n c = all-fresh first older command n c
 
-    same : next_seq_of before.name (notes_of first older) ≡ next_seq_of note.name (notes_of first older)
-    same = ap (λ (n : ℕ). next_seq_of n (notes_of first older)) named
+    same : next_place_of before.name (notes_of first older) ≡ next_place_of note.name (notes_of first older)
+    same = ap (λ (n : ℕ). next_place_of n (notes_of first older)) named
 
     by : Among before (notes_of first older) ⊎ Among before sent → Among note (notes_of first older) ⊎ Among note sent
         → (Among before (notes_of first older) → Among note (notes_of first older) → Follows first older before note) → Follows first (command ∷ older) before note
     by (inl c) (inl d) r = follows-later first command older before note (sound note d).stood (r c d)
     by (inr c) (inl d) r =
-        let seq = (new before c).seq in
+        let seq = (new before c).place in
         let counted = (sound note d).counted in
         let equal = same in
         let no : ⊥ = omega (arith, seq, counted, equal, next) in
         absurd no
     by (inr c) (inr d) r =
-        let seq = (new before c).seq in
-        let other = (new note d).seq in
+        let seq = (new before c).place in
+        let other = (new note d).place in
         let equal = same in
         let no : ⊥ = omega (arith, seq, other, equal, next) in
         absurd no
     by (inl c) (inr d) r =
-        let seq = (new note d).seq in
+        let seq = (new note d).place in
         let equal = same in
         let f = (new note d).follows (omega (arith, next)) in
-        let room = f.1 in
-        let latest = (sound before c).latest (omega (arith, seq, equal, next)) (omega (arith, room, equal)) (ap (λ (n : ℕ). is_some (runs_until n older)) named ∙ f.0) in
+        let latest = (sound before c).latest (omega (arith, seq, equal, next)) (ap (λ (n : ℕ). is_some (runs_until n older)) named ∙ f.0) in
         follows-later first command older before note (new note d).stood (record {
           from = released_to first (releases_of first older);
-          events = f.2;
+          events = f.1;
           below = latest.0;
           continues = latest.1;
-          ends = f.3;
+          ends = f.2;
         })

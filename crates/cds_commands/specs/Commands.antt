@@ -6,11 +6,13 @@ use Rattle.cds_catalog.specs.Library.{FolderMap}
 use Rattle.cds_catalog.specs.History.{History, end_of, with_scan}
 use Rattle.cds_catalog.specs.Laws.{AreLibraries}
 
--- what a server begins with, which no command changes: the two boot words, of which its names are made, and its first number
+-- what a server begins with, which no command changes: the two boot words, of which its names are made, its first number, and
+-- the SEQ after which comes SEQ 1. This wrap is 4,294,967,295 except in tests, and at least 256
 pub record Start : Type 0 where
   pub high : ℕ
   pub low : ℕ
   pub first : ℕ
+  pub wrap : ℕ
 
 -- what a server accepted: a scan with its folder map; a subscription at a moment, with its callback and the seconds that are
 -- granted; its renewal, its end; a tick at a moment; and that the server stops. A subscription is named by its number among the

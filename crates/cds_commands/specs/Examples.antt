@@ -21,13 +21,13 @@ two = (codes "a" ∷ [], a_track 10) ∷ (codes "b" ∷ [], a_track 10) ∷ []
 
 -- the first note of the first subscription, and the note of a release
 abbrev pub first : Note
-first = record { name = 1; seq = 0; number = 0; events = [] }
+first = record { name = 1; place = 0; number = 0; events = [] }
 
 abbrev pub added : Note
-added = record { name = 1; seq = 1; number = 1; events = ObjAdd 1 1 false 0 Track ∷ [] }
+added = record { name = 1; place = 1; number = 1; events = ObjAdd 1 1 false 0 Track ∷ [] }
 
 abbrev pub added_other : Note
-added_other = record { name = 1; seq = 2; number = 2; events = ObjAdd 2 2 false 0 Track ∷ [] }
+added_other = record { name = 1; place = 2; number = 2; events = ObjAdd 2 2 false 0 Track ∷ [] }
 
 -- releases are 200 milliseconds apart, and one release tells both scans before it
 abbrev pub three : FolderMap
@@ -37,7 +37,7 @@ abbrev pub until_1199 : List Command
 until_1199 = Ticks 1199 ∷ Scans three ∷ Ticks 1100 ∷ Scans two ∷ Ticks 1000 ∷ Scans one ∷ Grants 0 [] 1800 ∷ []
 
 abbrev pub added_two : Note
-added_two = record { name = 1; seq = 2; number = 3; events = ObjAdd 2 2 false 0 Track ∷ ObjAdd 3 3 false 0 Track ∷ [] }
+added_two = record { name = 1; place = 2; number = 3; events = ObjAdd 2 2 false 0 Track ∷ ObjAdd 3 3 false 0 Track ∷ [] }
 
 abbrev pub releases_are_apart : Type 0
 releases_are_apart =
@@ -54,7 +54,7 @@ releases_tell_containers =
 -- does not
 abbrev pub subscriptions_run_out : Type 0
 subscriptions_run_out =
-    (alive_names 1799999 (Grants 0 [] 1800 ∷ []) (first ∷ []) ≡ 1 ∷ []) × (alive_names 1800000 (Grants 0 [] 1800 ∷ []) (first ∷ []) ≡ [])
+    (alive_names 1799999 (Grants 0 [] 1800 ∷ []) ≡ 1 ∷ []) × (alive_names 1800000 (Grants 0 [] 1800 ∷ []) ≡ [])
     × (notes_of 0 (Ticks 1799999 ∷ Scans one ∷ Grants 0 [] 1800 ∷ []) ≡ first ∷ added ∷ [])
     × (notes_of 0 (Ticks 1800000 ∷ Scans one ∷ Grants 0 [] 1800 ∷ []) ≡ first ∷ [])
     × (notes_of 0 (Ticks 200 ∷ Ends 0 1 ∷ Scans one ∷ Grants 0 [] 1800 ∷ []) ≡ first ∷ [])
@@ -72,7 +72,7 @@ subscriptions_are_renewed =
 -- moments may fall: what has not run out at a later moment of a tick runs on at an earlier one, and a release waits for its pause
 abbrev pub moments_may_fall : Type 0
 moments_may_fall =
-    (alive_names 100 (Ticks 1799999 ∷ Grants 1000 (codes "http://10.0.0.9/") 1800 ∷ []) [] ≡ 1 ∷ [])
+    (alive_names 100 (Ticks 1799999 ∷ Grants 1000 (codes "http://10.0.0.9/") 1800 ∷ []) ≡ 1 ∷ [])
     × (callback_of 1 (Grants 2000 (codes "http://10.0.0.8/") 1800 ∷ Grants 1000 (codes "http://10.0.0.9/") 1800 ∷ []) ≡ Some (codes "http://10.0.0.9/"))
     × (releases_of 0 (Ticks 100 ∷ Scans two ∷ Ticks 1000 ∷ Scans one ∷ []) ≡ record { moment = 1000; from = 0; to = 1 } ∷ [])
     × (is_stopped (Ticks 100 ∷ Stops ∷ Scans one ∷ []) ≡ true) × (is_stopped (Ticks 100 ∷ Scans one ∷ []) ≡ false)
@@ -84,6 +84,6 @@ grants (suc n) = Grants 0 [] 1800 ∷ grants n
 
 abbrev pub room_for_64_subscriptions : Type 0
 room_for_64_subscriptions =
-    (has_room 0 (grants 63) (notes_of 0 (grants 63)) ≡ true) × (has_room 0 (grants 64) (notes_of 0 (grants 64)) ≡ false)
-    × (has_room 0 (Ends 0 7 ∷ grants 64) (notes_of 0 (Ends 0 7 ∷ grants 64)) ≡ true)
-    × (has_room 1800000 (grants 64) (notes_of 0 (grants 64)) ≡ true)
+    (has_room 0 (grants 63) ≡ true) × (has_room 0 (grants 64) ≡ false)
+    × (has_room 0 (Ends 0 7 ∷ grants 64) ≡ true)
+    × (has_room 1800000 (grants 64) ≡ true)

@@ -3,8 +3,11 @@ pub mod Examples
 pub mod Names
 pub mod NoteLaws
 pub mod Notes
+pub mod PlaceLaws
+pub mod Places
 pub mod ReleaseLaws
 pub mod Releases
 pub mod ServerLaws
 pub mod SubscriptionLaws
 pub mod Subscriptions
+pub mod Wire

@@ -30,6 +30,6 @@ names_are_short = (start : Start) (n : ℕ) → start.high < 2 ^ 64 → start.lo
 -- the names of numbers 0 and 1 of a server whose boot words are 0, and of number 1 of one whose bits are all set
 abbrev pub names_evaluated : Type 0
 names_evaluated =
-    (name_of (record { high = 0; low = 0; first = 0 }) 0 ≡ 0x80008000000000000000)
-    × (name_of (record { high = 0; low = 0; first = 0 }) 1 ≡ 0x80008000000000000001)
-    × (name_of (record { high = 2 ^ 64 - 1; low = 2 ^ 64 - 1; first = 0 }) 1 ≡ 0xffffffffffff8fffbfffffff00000001)
+    (name_of (record { high = 0; low = 0; first = 0; wrap = 4294967295 }) 0 ≡ 0x80008000000000000000)
+    × (name_of (record { high = 0; low = 0; first = 0; wrap = 4294967295 }) 1 ≡ 0x80008000000000000001)
+    × (name_of (record { high = 2 ^ 64 - 1; low = 2 ^ 64 - 1; first = 0; wrap = 4294967295 }) 1 ≡ 0xffffffffffff8fffbfffffff00000001)

@@ -10,10 +10,11 @@ use Rattle.cds_commands.specs.Releases.{Release, release_at, releases_of}
 use Rattle.cds_commands.specs.Subscriptions.{granted, is_alive, subscription_limit}
 use Rattle.cds_object.specs.Events.{is_change, update_of}
 
--- a note: the name of its subscription, its SEQ, its SystemUpdateID and its events
+-- a note: the name of its subscription, its place among those of its subscription, its SystemUpdateID and its events. The place
+-- determines its SEQ on the wire
 pub record Note : Type 0 where
   pub name : ℕ
-  pub seq : ℕ
+  pub place : ℕ
   pub number : ℕ
   pub events : List Event
 
@@ -21,28 +22,23 @@ pub record Note : Type 0 where
 abbrev pub sent_to : ℕ → List Note → List Note
 sent_to name notes = filter (λ (note : Note). nat_eq note.name name) notes
 
--- the next SEQ of a subscription: it counts the notes that were sent to it
-abbrev pub next_seq_of : ℕ → List Note → ℕ
-next_seq_of name sent = length (filter (λ (note : Note). nat_eq note.name name) sent)
+-- the place of the next note of a subscription: it counts the notes that were sent to it
+abbrev pub next_place_of : ℕ → List Note → ℕ
+next_place_of name sent = length (filter (λ (note : Note). nat_eq note.name name) sent)
 
--- how many notes a subscription gets at most: it ends after the one with the last SEQ
-abbrev pub seq_limit : ℕ
-seq_limit = 4294967296
-
--- the names of the subscriptions that live at a moment, in the order of their making, after the notes that were sent
-abbrev pub alive_names : ℕ → List Command → List Note → List ℕ
-alive_names now commands sent =
-    filter (λ name. is_alive name now commands && nat_lt (next_seq_of name sent) seq_limit) (range_with_len 1 (granted commands))
+-- the names of the subscriptions that live at a moment, in the order of their making
+abbrev pub alive_names : ℕ → List Command → List ℕ
+alive_names now commands = filter (λ name. is_alive name now commands) (range_with_len 1 (granted commands))
 
 -- whether there is room for one more subscription
-abbrev pub has_room : ℕ → List Command → List Note → Bool
-has_room now commands sent = nat_lt (length (alive_names now commands sent)) subscription_limit
+abbrev pub has_room : ℕ → List Command → Bool
+has_room now commands = nat_lt (length (alive_names now commands)) subscription_limit
 
 -- the note of a release to one of the subscriptions that live
 abbrev pub released_note : History → Release → List Note → ℕ → Note
 released_note history release sent name = record {
   name = name;
-  seq = next_seq_of name sent;
+  place = next_place_of name sent;
   number = release.to;
   events = events_between history release.from release.to;
 }
@@ -53,14 +49,14 @@ released_notes history (Some release) sent names = map (released_note history re
 
 -- the first note of a subscription has the current number and no changes
 abbrev pub first_note : ℕ → ℕ → Note
-first_note name number = record { name = name; seq = 0; number = number; events = [] }
+first_note name number = record { name = name; place = 0; number = number; events = [] }
 
 -- the notes that a command sends, after the older ones
 abbrev pub sent_by : ℕ → List Command → List Note → Command → List Note
 sent_by first older sent (Grants moment callback seconds) = first_note (granted older + 1) (end_of (scans_of first older)) ∷ []
 sent_by first older sent (Ticks moment) =
     released_notes (scans_of first older) (release_at moment (scans_of first older) (releases_of first older)) sent
-    (alive_names moment older sent)
+    (alive_names moment older)
 sent_by first older sent command = []
 
 -- all notes that were sent, the oldest first
@@ -73,19 +69,19 @@ abbrev pub events_of : List Note → List Event
 events_of [] = []
 events_of (note ∷ notes) = note.events ++ events_of notes
 
--- the note of a SEQ among notes. If several have it, it is the last in the list, which is the one that came first if the newest
+-- the note of a place among notes. If several have it, it is the last in the list, which is the one that came first if the newest
 -- is the first
 abbrev pub note_of : ℕ → List Note → Option Note
-note_of seq [] = None
-note_of seq (note ∷ older) = or_this (note_of seq older)
+note_of place [] = None
+note_of place (note ∷ older) = or_this (note_of place older)
   where
     or_this : Option Note → Option Note
-    or_this None = cond (nat_eq note.seq seq) (Some note) None
+    or_this None = cond (nat_eq note.place place) (Some note) None
     or_this (Some first) = Some first
 
--- the notes of the SEQs from one up to and without another, in ascending order
+-- the notes of the places from one up to and without another, in ascending order
 abbrev pub notes_from_to : ℕ → ℕ → List Note → List Note
-notes_from_to from to notes = filter_map (λ seq. note_of seq notes) (range_with_len from (to - from))
+notes_from_to from to notes = filter_map (λ place. note_of place notes) (range_with_len from (to - from))
 
 -- the changes among events that are above a number
 abbrev pub changes_above : ℕ → List Event → List Event

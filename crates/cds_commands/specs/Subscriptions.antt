@@ -23,8 +23,7 @@ unless_past moment None = None
 unless_past moment (Some end) = cond (nat_lt moment end) (Some end) None
 
 -- the moment at which a subscription runs out: that of its grant or its last renewal, and the seconds of it. There is none if it
--- was not granted, was given up, or a tick came at or past that moment. The note with the last SEQ ends it too, which is not
--- looked at here
+-- was not granted, was given up, or a tick came at or past that moment.
 abbrev pub runs_until : ℕ → List Command → Option ℕ
 runs_until name [] = None
 runs_until name (Scans library ∷ older) = runs_until name older
@@ -34,7 +33,7 @@ runs_until name (Ends moment other ∷ older) = cond (nat_eq name other) None (r
 runs_until name (Ticks moment ∷ older) = unless_past moment (runs_until name older)
 runs_until name (Stops ∷ older) = runs_until name older
 
--- whether a subscription still has time at a moment. It lives if it also has SEQs left, as `alive_names` says
+-- whether a subscription lives at a moment: it still has time
 abbrev pub is_alive : ℕ → ℕ → List Command → Bool
 is_alive name now commands = is_some (unless_past now (runs_until name commands))
 

@@ -2,6 +2,7 @@
 
 ghost use Rattle.cds_commands.specs.Examples as examples;
 ghost use Rattle.cds_commands.specs.Names as names;
+ghost use Rattle.cds_commands.specs.PlaceLaws as places;
 
 /// States that releases are 200 milliseconds apart, and that one tells all scans before it.
 pub fn releases_are_apart()
@@ -36,4 +37,9 @@ pub fn room_for_64_subscriptions()
 /// States names that are evaluated from their definition.
 pub fn names_evaluated()
     ensures { names.names_evaluated }
+{}
+
+/// States the places of some SEQs if these wrap after 256, and at the greatest wrap.
+pub fn places_evaluated()
+    ensures { places.places_evaluated }
 {}

@@ -2,6 +2,7 @@
 
 ghost use Rattle.cds_commands.specs.Names as names;
 ghost use Rattle.cds_commands.specs.NoteLaws as notes;
+ghost use Rattle.cds_commands.specs.PlaceLaws as places;
 ghost use Rattle.cds_commands.specs.ReleaseLaws as releases;
 ghost use Rattle.cds_commands.specs.ServerLaws as server;
 ghost use Rattle.cds_commands.specs.SubscriptionLaws as subscriptions;
@@ -23,9 +24,9 @@ pub fn releases_go_on()
     ensures { releases.releases_go_on }
 {}
 
-/// States that the notes of a subscription have the SEQs 0, 1, 2 and so on.
-pub fn seqs_count_from_zero()
-    ensures { releases.seqs_count_from_zero }
+/// States that the notes of a subscription have the places 0, 1, 2 and so on.
+pub fn places_count_from_zero()
+    ensures { releases.places_count_from_zero }
 {}
 
 /// States that no two of fewer than 2^32 grants of a server have one name.
@@ -39,8 +40,7 @@ pub fn names_are_short()
 {}
 
 /// States that a subscription lives at a moment if and only if all of this holds: it was granted; it was not given up; no tick
-/// came at or past its end; the moment is before its end; and it has a SEQ left. Its end is that of its grant or its last
-/// renewal.
+/// came at or past its end; and the moment is before its end. Its end is that of its grant or its last renewal.
 pub fn subscriptions_live_until_their_end()
     ensures { subscriptions.subscriptions_live_until_their_end }
 {}
@@ -60,4 +60,34 @@ pub fn releases_reach_what_lives()
 /// release at which it lived. Its k-th note is that of the k-th such release.
 pub fn notes_are_of_releases()
     ensures { subscriptions.notes_are_of_releases }
+{}
+
+/// States that the least place with a SEQ, from one on, is the true one if that is not a whole wrap away.
+pub fn least_place_is_found()
+    ensures { places.least_place_is_found }
+{}
+
+/// States that a note within reach of the next place is given its true place.
+pub fn near_places_are_true()
+    ensures { places.near_places_are_true }
+{}
+
+/// States that an old note which is not within reach, and not nearly a whole wrap away, is given no place.
+pub fn old_places_are_none()
+    ensures { places.old_places_are_none }
+{}
+
+/// States that a new note which is not within reach, and not nearly a whole wrap away, is given no place.
+pub fn new_places_are_none()
+    ensures { places.new_places_are_none }
+{}
+
+/// States that a place is the SEQ if fewer than 2^30 notes came and SEQs wrap after 4294967295.
+pub fn places_are_seqs()
+    ensures { places.places_are_seqs }
+{}
+
+/// States that the SEQ of a next place is the one after that of the place before it.
+pub fn next_places_have_next_seqs()
+    ensures { places.next_places_have_next_seqs }
 {}

@@ -1,6 +1,6 @@
 -- The answer is complete: where every note was received, all is released and nothing is to be read, the replica stands at the
 -- server's number.
-use Rattle.std.proofs.Common.{◌≡◌, ◌⊎◌, inl, inr, ◌+◌, ◌-◌, ◌<◌, ◌≤◌, ℕ, Bool, true, false, cond, not, ◌&&◌, ◌||◌, nat_eq, nat_lt, List, [], ◌∷◌, ◌++◌, length, drop, Option, Some, None, is_some, refl, sym, ap, ◌∙◌, subst, arith, true≢false, le-ltb, ltb-true}
+use Rattle.std.proofs.Common.{◌≡◌, ◌⊎◌, inl, inr, ◌+◌, ◌-◌, ◌<◌, ◌≤◌, ℕ, Bool, true, false, cond, not, ◌&&◌, ◌||◌, nat_eq, nat_lt, List, [], ◌∷◌, ◌++◌, length, drop, Option, Some, None, is_some, refl, sym, ap, ◌∙◌, subst, arith, true≢false, le-ltb}
 use Rattle.std.specs.Option.{option_map}
 use Rattle.std.specs.List.{AllByRecursion, range_with_len}
 use Rattle.std.proofs.lemmas.Bool.{cases_lt}
@@ -12,11 +12,11 @@ use Rattle.cds_load.specs.declared.exchange.Shown.{Shown}
 use Rattle.cds_load.specs.declared.exchange.Shown.TheVariants.{Text, Number, Page, Fault}
 use Rattle.cds_load.specs.Stages.{Waiting, Listing, Held, Idle, Begun, HasToken, HasNumber, HasRoot, Lists, HasPage, HasCopy, taken, listed, after_page, page_taken, root_taken, listing_of, listed_id, listed_children, fits, others_waiting, put_rows, put_containers, Loads}
 use Rattle.cds_commands.specs.Commands.{Command, scans_of, oldest, AreAccepted}
-use Rattle.cds_commands.specs.Notes.{Note, next_seq_of, seq_limit, alive_names, notes_of, changes_above}
+use Rattle.cds_commands.specs.Notes.{Note, next_place_of, alive_names, notes_of, changes_above}
 use Rattle.cds_commands.specs.Releases.{released_to, releases_of}
 use Rattle.cds_commands.specs.Subscriptions.{granted, runs_until, unless_past, is_alive}
 use Rattle.cds_follow.specs.Copy.{Reads, least_unread, read_up_to, rows_after, known_of}
-use Rattle.cds_follow.specs.Inbox.{ReplicaTurn, Begins, Shows, Requests, Accepts, Refuses, Delivers, accepted, received, has_seq, next_seq, missing, taken_by}
+use Rattle.cds_follow.specs.Inbox.{ReplicaTurn, Begins, Shows, Requests, Accepts, Refuses, Delivers, accepted, received, has_place, next_place, missing, taken_by}
 use Rattle.cds_follow.specs.Follow.{Known, position, load_begun, is_drop, with_changes, new_changes, heard_of, with_notes, loaded, is_of, row_read, copy_read, with_reply, known_by, ask_of, next_ask, says_of, says_without_gap, copy_says, says}
 use Rattle.cds_follow.specs.Given.{length_at, given_by}
 use Rattle.cds_follow.specs.HonestLaws.{load_was_begun, honest_answers_are_complete}
@@ -208,8 +208,7 @@ begun-busy (Delivers note ∷ older) e =
 module _ (token : List ℕ) (first : ℕ) (commands : List Command) (given-accepted : AreAccepted first commands) (k : ℕ) (turns : List ReplicaTurn) (name : ℕ)
     (served : IsServed token first commands given-accepted k turns) (whole : length commands ≤ k) (named : accepted turns ≡ Some name)
     (low : 1 ≤ name) (high : name ≤ granted commands) (runs : is_some (runs_until name commands) ≡ true)
-    (room : next_seq_of name (notes_of first commands) < seq_limit)
-    (all : AllByRecursion (λ (note : Note). note.name ≡ name → has_seq (received turns) note.seq ≡ true) (notes_of first commands))
+    (all : AllByRecursion (λ (note : Note). note.name ≡ name → has_place (received turns) note.place ≡ true) (notes_of first commands))
     (released : released_to first (releases_of first commands) ≡ end_of (scans_of first commands)) where
   abbrev end : ℕ
   end = end_of (scans_of first commands)
@@ -221,15 +220,15 @@ module _ (token : List ℕ) (first : ℕ) (commands : List Command) (given-accep
   sound note a = among-all (Sound first commands) (notes_of first commands) note (all-sound first commands) a
 
   -- the SEQs that were taken are at least those that were sent
-  many : next_seq_of name (notes_of first commands) ≤ next_seq turns
-  many = by (cases_lt (next_seq turns) (next_seq_of name (notes_of first commands)))
+  many : next_place_of name (notes_of first commands) ≤ next_place turns
+  many = by (cases_lt (next_place turns) (next_place_of name (notes_of first commands)))
     where
-      by : (next_seq turns < next_seq_of name (notes_of first commands)) ⊎ (next_seq_of name (notes_of first commands) ≤ next_seq turns) → next_seq_of name (notes_of first commands) ≤ next_seq turns
+      by : (next_place turns < next_place_of name (notes_of first commands)) ⊎ (next_place_of name (notes_of first commands) ≤ next_place turns) → next_place_of name (notes_of first commands) ≤ next_place turns
       by (inr l) = l
       by (inl l) =
-          let note = every-seq first commands name (next_seq turns) l in
-          let is = among-all (λ (n : Note). n.name ≡ name → has_seq (received turns) n.seq ≡ true) (notes_of first commands) note.0 all note.1 note.2 in
-          absurd (true≢false (sym is ∙ ap (has_seq (received turns)) note.3 ∙ (longest-run turns).1))
+          let note = every-seq first commands name (next_place turns) l in
+          let is = among-all (λ (n : Note). n.name ≡ name → has_place (received turns) n.place ≡ true) (notes_of first commands) note.0 all note.1 note.2 in
+          absurd (true≢false (sym is ∙ ap (has_place (received turns)) note.3 ∙ (longest-run turns).1))
 
   -- what was received was sent to the name
   sent : (note : Note) → Among note (received turns) → Among note (notes_of first commands) × (note.name ≡ name)
@@ -240,28 +239,28 @@ module _ (token : List ℕ) (first : ℕ) (commands : List Command) (given-accep
 
   none-missing : missing turns ≡ None
   none-missing =
-      (λ i. cond (any-none (λ (note : Note). nat_lt (next_seq turns) note.seq) (received turns)
-      (all-among (λ (note : Note). nat_lt (next_seq turns) note.seq ≡ false) (received turns) one) i) (Some (next_seq turns)) None)
+      (λ i. cond (any-none (λ (note : Note). nat_lt (next_place turns) note.place) (received turns)
+      (all-among (λ (note : Note). nat_lt (next_place turns) note.place ≡ false) (received turns) one) i) (Some (next_place turns)) None)
     where
-      one : (note : Note) → Among note (received turns) → nat_lt (next_seq turns) note.seq ≡ false
+      one : (note : Note) → Among note (received turns) → nat_lt (next_place turns) note.place ≡ false
       one note a =
           let s = sent note a in
           let counted = (sound note s.0).counted in
-          let same = ap (λ (n : ℕ). next_seq_of n (notes_of first commands)) s.1 in
+          let same = ap (λ (n : ℕ). next_place_of n (notes_of first commands)) s.1 in
           let most = many in
-          le-ltb (next_seq turns) note.seq (omega (arith, counted, same, most))
+          le-ltb (next_place turns) note.place (omega (arith, counted, same, most))
 
   -- the last note that was taken has the server's number
   at-end : position (known_by turns) ≡ end
   at-end =
       let some = some-older first commands name low high in
       let most = many in
-      let last = served.hearing.last (next_seq_of name (notes_of first commands) - 1) (omega (arith, some, most)) in
-      let a = note-among (next_seq_of name (notes_of first commands) - 1) (received turns) last.0 last.1 in
+      let last = served.hearing.last (next_place_of name (notes_of first commands) - 1) (omega (arith, some, most)) in
+      let a = note-among (next_place_of name (notes_of first commands) - 1) (received turns) last.0 last.1 in
       let s = sent last.0 a.0 in
-      let same = ap (λ (n : ℕ). next_seq_of n (notes_of first commands)) s.1 in
+      let same = ap (λ (n : ℕ). next_place_of n (notes_of first commands)) s.1 in
       let seq = a.1 in
-      let reaches = (sound last.0 s.0).latest (omega (arith, seq, same, some)) (omega (arith, same, room)) (ap (λ (n : ℕ). is_some (runs_until n commands)) s.1 ∙ runs) in
+      let reaches = (sound last.0 s.0).latest (omega (arith, seq, same, some)) (ap (λ (n : ℕ). is_some (runs_until n commands)) s.1 ∙ runs) in
       let far = reaches.0 in
       let last_note = last.2 in
       let top = past-low token first commands given-accepted k (position (known_by turns)) served.following.past in
@@ -288,10 +287,6 @@ module _ (token : List ℕ) (first : ℕ) (commands : List Command) (given-accep
       by (Loads load) b e stage = absurd (cc)
       by (HasCopy number rows) b e stage = copy-on number rows stage (least_unread (known_by turns).happenings) e
 
-both-hold : (a b : Bool) → a && b ≡ true → (a ≡ true) × (b ≡ true)
-both-hold true b e = (refl, e)
-both-hold false b e = absurd (true≢false (sym e))
-
 past-runs : (moment : ℕ) (o : Option ℕ) → is_some (unless_past moment o) ≡ true → is_some o ≡ true
 past-runs moment None e = e
 past-runs moment (Some until) e = refl
@@ -299,13 +294,12 @@ past-runs moment (Some until) e = refl
 pub answers-complete : honest_answers_are_complete
 answers-complete token first commands newest older name now given-accepted given begun named lives all released nothing =
     let turns : List ReplicaTurn = given_by token first commands (newest ∷ older) in
-    let f = filter-among (λ (n : ℕ). is_alive n now commands && nat_lt (next_seq_of n (notes_of first commands)) seq_limit) (range_with_len 1 (granted commands)) name
-    (among-contained (alive_names now commands (notes_of first commands)) name lives) in
+    let f = filter-among (λ (n : ℕ). is_alive n now commands) (range_with_len 1 (granted commands)) name
+    (among-contained (alive_names now commands) name lives) in
     let row = row-among 1 (granted commands) name f.0 in
     let high = row.1 in
-    let both = both-hold (is_alive name now commands) (nat_lt (next_seq_of name (notes_of first commands)) seq_limit) f.1 in
     complete token first commands given-accepted (length_at newest + length commands) turns name
     (served-later token first commands given-accepted (length_at newest) (length_at newest + length commands) turns (omega arith)
     (entries-served token first commands given-accepted (newest ∷ older) given)) (omega arith) named
-    row.0 (omega (arith, high)) (past-runs now (runs_until name commands) both.0)
-    (ltb-true (next_seq_of name (notes_of first commands)) seq_limit both.1) all released (begun-busy turns begun) nothing
+    row.0 (omega (arith, high)) (past-runs now (runs_until name commands) f.1)
+    all released (begun-busy turns begun) nothing

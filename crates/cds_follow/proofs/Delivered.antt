@@ -8,7 +8,7 @@ use Rattle.cds_load.specs.declared.exchange.Ask.{Ask}
 use Rattle.cds_commands.specs.Commands.{Command, oldest, AreAccepted}
 use Rattle.cds_commands.specs.Notes.{Note, notes_of}
 use Rattle.cds_commands.specs.Subscriptions.{granted}
-use Rattle.cds_follow.specs.Inbox.{ReplicaTurn, Shows, Accepts, Delivers, is_out, accepted as accepted_name, is_accepted, is_early, early_notes, received, has_seq, next_seq, held_notes, held_limit, Arrival, IsUnknown, IsRepeat, IsTooMany, IsEarly, IsHeld, IsNext, is_repeat, is_next, arrival}
+use Rattle.cds_follow.specs.Inbox.{ReplicaTurn, Shows, Accepts, Delivers, is_out, accepted as accepted_name, is_accepted, is_early, early_notes, received, has_place, next_place, held_notes, held_limit, Arrival, IsUnknown, IsRepeat, IsTooMany, IsEarly, IsHeld, IsNext, is_repeat, is_next, arrival}
 use Rattle.cds_follow.specs.Follow.{known_by, is_turned_away, is_refused, and_turn, next_ask}
 use Rattle.cds_follow.specs.Given.{moment_after, Entry, Starts, Asks, Calls, Granted, Denied, Gets, asked_at, given_by, latest_length, length_before_call, IsGiven}
 use Rattle.cds_follow.specs.HonestLaws.{delivered_notes_are_received}
@@ -103,8 +103,8 @@ has-room held next false true false false above e few = refl
 not-away : (note : Note) (turns : List ReplicaTurn) → is_accepted note.name turns || is_out turns ≡ true → ((held : ℕ) → arrival note turns ≡ IsTooMany held → ⊥)
     → is_turned_away (arrival note turns) ≡ false
 not-away note turns e few =
-    has-room (length (held_notes turns)) (next_seq turns) (is_accepted note.name turns) (is_out turns) (is_repeat note turns)
-    (not (is_next note turns) && nat_le held_limit (length (held_notes turns))) (nat_lt (next_seq turns) note.seq) e few
+    has-room (length (held_notes turns)) (next_place turns) (is_accepted note.name turns) (is_out turns) (is_repeat note turns)
+    (not (is_next note turns) && nat_le held_limit (length (held_notes turns))) (nat_lt (next_place turns) note.place) e few
 
 -- ---- all entries
 
@@ -282,17 +282,17 @@ module _ (token : List ℕ) (first : ℕ) (commands : List Command) (accepted : 
   kept [] k note older given room = kept-first k note older given room
   kept (entry ∷ newer) k note older given room = kept-on note entry (newer ++ Gets k note ∷ older) given (kept newer k note older given.2 room)
 
-among-seq : (notes : List Note) (note : Note) → Among note notes → has_seq notes note.seq ≡ true
+among-seq : (notes : List Note) (note : Note) → Among note notes → has_place notes note.place ≡ true
 among-seq [] note a = absurd a
 among-seq (other ∷ notes) note a = by a (λ b. among-seq notes note b)
   where
-    either : (b : Bool) → has_seq notes note.seq ≡ true → b || has_seq notes note.seq ≡ true
+    either : (b : Bool) → has_place notes note.place ≡ true → b || has_place notes note.place ≡ true
     either true h = refl
     either false h = h
 
-    by : (note ≡ other) ⊎ Among note notes → (Among note notes → has_seq notes note.seq ≡ true) → nat_eq other.seq note.seq || has_seq notes note.seq ≡ true
-    by (inl e) r = λ i. eq-eqb other.seq note.seq (ap (λ (n : Note). n.seq) (sym e)) i || has_seq notes note.seq
-    by (inr b) r = either (nat_eq other.seq note.seq) (r b)
+    by : (note ≡ other) ⊎ Among note notes → (Among note notes → has_place notes note.place ≡ true) → nat_eq other.place note.place || has_place notes note.place ≡ true
+    by (inl e) r = λ i. eq-eqb other.place note.place (ap (λ (n : Note). n.place) (sym e)) i || has_place notes note.place
+    by (inr b) r = either (nat_eq other.place note.place) (r b)
 
 pub delivered-are-received : delivered_notes_are_received
 delivered-are-received token first commands newer k note older accepted given named_so room =

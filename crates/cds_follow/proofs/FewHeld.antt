@@ -3,7 +3,7 @@ use Rattle.std.proofs.Common.{◌≡◌, ◌⊎◌, inl, inr, ◌+◌, ◌<◌, 
 use Rattle.std.specs.List.{list_any}
 use Rattle.std.specs.Option.{option_eq}
 use Rattle.cds_commands.specs.Notes.{Note}
-use Rattle.cds_follow.specs.Inbox.{ReplicaTurn, Begins, Shows, Requests, Accepts, Refuses, Delivers, is_out, accepted, is_accepted, early_notes, received, has_seq, least_outside, next_seq, is_same_note, different, waiting_notes, held_notes, held_limit, IsUnknown, IsRepeat, IsTooMany, IsEarly, IsHeld, IsNext, is_repeat, is_next, arrival, taken_by}
+use Rattle.cds_follow.specs.Inbox.{ReplicaTurn, Begins, Shows, Requests, Accepts, Refuses, Delivers, is_out, accepted, is_accepted, early_notes, received, has_place, least_outside, next_place, is_same_note, different, waiting_notes, held_notes, held_limit, IsUnknown, IsRepeat, IsTooMany, IsEarly, IsHeld, IsNext, is_repeat, is_next, arrival, taken_by}
 use Rattle.cds_follow.specs.Follow.{is_turned_away, with_notes, known_by}
 use Rattle.cds_follow.specs.KnownLaws.{at_most_64_are_held}
 use Rattle.cds_commands.proofs.Among.{Among, filter-among}
@@ -50,7 +50,7 @@ filter-less p (note ∷ notes) = by (p note) (filter-less p notes)
 same-stays : (name : ℕ) (note : Note) (notes : List Note) → nat_eq note.name name ≡ true → list_any (is_same_note note) notes ≡ true
     → list_any (is_same_note note) (filter (λ (n : Note). nat_eq n.name name) notes) ≡ true
 same-stays name note [] e h = h
-same-stays name note (other ∷ notes) e h = by (nat_eq note.name other.name) (nat_eq note.seq other.seq) (nat_eq other.name name) refl refl refl h (same-stays name note notes e)
+same-stays name note (other ∷ notes) e h = by (nat_eq note.name other.name) (nat_eq note.place other.place) (nat_eq other.name name) refl refl refl h (same-stays name note notes e)
   where
     either : (b c : Bool) → list_any (is_same_note note) (filter (λ (n : Note). nat_eq n.name name) notes) ≡ true
         → list_any (is_same_note note) (cond c (other ∷ filter (λ (n : Note). nat_eq n.name name) notes) (filter (λ (n : Note). nat_eq n.name name) notes)) ≡ true
@@ -62,7 +62,7 @@ same-stays name note (other ∷ notes) e h = by (nat_eq note.name other.name) (n
         other-or false k = k
     either b false k = k
 
-    by : (a s b : Bool) → nat_eq note.name other.name ≡ a → nat_eq note.seq other.seq ≡ s → nat_eq other.name name ≡ b
+    by : (a s b : Bool) → nat_eq note.name other.name ≡ a → nat_eq note.place other.place ≡ s → nat_eq other.name name ≡ b
         → (a && s) || list_any (is_same_note note) notes ≡ true
         → (list_any (is_same_note note) notes ≡ true → list_any (is_same_note note) (filter (λ (n : Note). nat_eq n.name name) notes) ≡ true)
         → list_any (is_same_note note) (cond b (other ∷ filter (λ (n : Note). nat_eq n.name name) notes) (filter (λ (n : Note). nat_eq n.name name) notes)) ≡ true
@@ -120,14 +120,14 @@ received-named (Delivers other ∷ older) note a = by (is_accepted other.name ol
     by false e b r = r b
 
 -- one whose SEQ was received is the same as another
-same-received : (turns : List ReplicaTurn) (note : Note) → is_accepted note.name turns ≡ true → has_seq (received turns) note.seq ≡ true
+same-received : (turns : List ReplicaTurn) (note : Note) → is_accepted note.name turns ≡ true → has_place (received turns) note.place ≡ true
     → list_any (is_same_note note) (received turns) ≡ true
 same-received turns note e h =
-    let found = has-note note.seq (received turns) h in
-    let a = note-among note.seq (received turns) found.0 found.1 in
+    let found = has-note note.place (received turns) h in
+    let a = note-among note.place (received turns) found.0 found.1 in
     let both : Some note.name ≡ Some found.0.name = sym (is-name note.name (accepted turns) e) ∙ received-named turns found.0 a.0 in
     let name : note.name ≡ found.0.name = cc in
-    any-among (is_same_note note) (received turns) found.0 a.0 (λ i. eq-eqb note.name found.0.name name i && eq-eqb note.seq found.0.seq (sym a.1) i)
+    any-among (is_same_note note) (received turns) found.0 a.0 (λ i. eq-eqb note.name found.0.name name i && eq-eqb note.place found.0.place (sym a.1) i)
 
 -- ---- one note more
 
@@ -143,24 +143,24 @@ module _ (note : Note) (older : List ReplicaTurn) (room : is_turned_away (arriva
 
       is : (b : Bool) → nat_le held_limit (length (held_notes older)) ≡ b
           → arrival note older ≡ cond b (IsTooMany (length (held_notes older)))
-          (cond (not (is_accepted note.name older)) IsEarly (cond (nat_lt (next_seq older) note.seq) (IsHeld (next_seq older)) IsNext))
+          (cond (not (is_accepted note.name older)) IsEarly (cond (nat_lt (next_place older) note.place) (IsHeld (next_place older)) IsNext))
       is b e = λ i.
           cond (unknown (is_accepted note.name older) (is_out older) known i) IsUnknown
           (cond (again i) IsRepeat
           (cond (not (next i) && e i) (IsTooMany (length (held_notes older)))
-          (cond (not (is_accepted note.name older)) IsEarly (cond (nat_lt (next_seq older) note.seq) (IsHeld (next_seq older)) IsNext))))
+          (cond (not (is_accepted note.name older)) IsEarly (cond (nat_lt (next_place older) note.place) (IsHeld (next_place older)) IsNext))))
 
       by : (b : Bool) → nat_le held_limit (length (held_notes older)) ≡ b → length (held_notes older) < held_limit
       by true e = absurd (true≢false (sym (ap is_turned_away (is true e)) ∙ room))
       by false e = leb-false held_limit (length (held_notes older)) e
 
   abbrev waits : ℕ → List Note → List Note
-  waits next notes = filter (λ (n : Note). nat_lt next n.seq) notes
+  waits next notes = filter (λ (n : Note). nat_lt next n.place) notes
 
   waits-less : (low high : ℕ) → low ≤ high → (notes : List Note) → length (waits high notes) ≤ length (waits low notes)
   waits-less low high l notes =
-      filter-weaker (λ (n : Note). nat_lt high n.seq) (λ (n : Note). nat_lt low n.seq)
-      (λ n e. let above = ltb-true high n.seq e in lt-ltb low n.seq (omega (arith, above, l))) notes
+      filter-weaker (λ (n : Note). nat_lt high n.place) (λ (n : Note). nat_lt low n.place)
+      (λ n e. let above = ltb-true high n.place e in lt-ltb low n.place (omega (arith, above, l))) notes
 
   abbrev few : ℕ → ℕ → Type 0
   few waiting early = waiting + early ≤ held_limit
@@ -173,60 +173,60 @@ module _ (note : Note) (older : List ReplicaTurn) (room : is_turned_away (arriva
   named-few named before = by (list_any (is_same_note note) (received older)) refl
     where
       now : ℕ
-      now = next_seq (Delivers note ∷ older)
+      now = next_place (Delivers note ∷ older)
 
-      up : next_seq older ≤ now
+      up : next_place older ≤ now
       up = rises note older named
 
       more : received (Delivers note ∷ older) ≡ note ∷ received older
       more = λ i. cond (named i) (note ∷ received older) (received older)
 
       -- where it is the next one it does not wait
-      past : note.seq ≡ next_seq older → nat_lt now note.seq ≡ false
+      past : note.place ≡ next_place older → nat_lt now note.place ≡ false
       past same =
           let rise = up in
-          le-ltb now note.seq (omega (arith, rise, same))
+          le-ltb now note.place (omega (arith, rise, same))
 
       on : (b : Bool) → list_any (is_same_note note) (received older) ≡ b → waiting_notes (Delivers note ∷ older) ≡ waits now (cond b (different (received older)) (note ∷ different (received older)))
       on b e = ap (λ (notes : List Note). waits now (different notes)) more ∙ (λ i. waits now (cond (e i) (different (received older)) (note ∷ different (received older))))
 
-      held : length (waits (next_seq older) (different (received older))) + length (different (early_notes older)) ≤ held_limit
+      held : length (waits (next_place older) (different (received older))) + length (different (early_notes older)) ≤ held_limit
       held = let is = held-length older in omega (arith, is, before)
 
       by : (b : Bool) → list_any (is_same_note note) (received older) ≡ b → few (length (waiting_notes (Delivers note ∷ older))) (length (different (early_notes older)))
       by true e =
           let is = ap length (on true e) in
-          let less = waits-less (next_seq older) now up (different (received older)) in
+          let less = waits-less (next_place older) now up (different (received older)) in
           let most = held in
           omega (arith, is, less, most)
-      by false e = waiting (nat_lt now note.seq) refl
+      by false e = waiting (nat_lt now note.place) refl
         where
-          waiting : (c : Bool) → nat_lt now note.seq ≡ c → few (length (waiting_notes (Delivers note ∷ older))) (length (different (early_notes older)))
+          waiting : (c : Bool) → nat_lt now note.place ≡ c → few (length (waiting_notes (Delivers note ∷ older))) (length (different (early_notes older)))
           waiting false f =
               let is = ap length (on false e ∙ (λ i. cond (f i) (note ∷ waits now (different (received older))) (waits now (different (received older))))) in
-              let less = waits-less (next_seq older) now up (different (received older)) in
+              let less = waits-less (next_place older) now up (different (received older)) in
               let most = held in
               omega (arith, is, less, most)
           waiting true f =
               let is = ap length (on false e ∙ (λ i. cond (f i) (note ∷ waits now (different (received older))) (waits now (different (received older))))) in
-              let less = waits-less (next_seq older) now up (different (received older)) in
+              let less = waits-less (next_place older) now up (different (received older)) in
               let room_before = few-before (λ i. named i || is_out older) again next in
               let parts = held-length older in
               omega (arith, is, less, room_before, parts)
             where
-              not-seq : (b : Bool) → has_seq (received older) note.seq ≡ b → has_seq (received older) note.seq ≡ false
+              not-seq : (b : Bool) → has_place (received older) note.place ≡ b → has_place (received older) note.place ≡ false
               not-seq true h = absurd (true≢false (sym (same-received older note named h) ∙ e))
               not-seq false h = h
 
               again : is_repeat note older ≡ false
-              again = (λ i. cond (named i) (has_seq (received older) note.seq) (is_out older && list_any (is_same_note note) (early_notes older))) ∙ not-seq (has_seq (received older) note.seq) refl
+              again = (λ i. cond (named i) (has_place (received older) note.place) (is_out older && list_any (is_same_note note) (early_notes older))) ∙ not-seq (has_place (received older) note.place) refl
 
-              apart : (b : Bool) → nat_eq note.seq (next_seq older) ≡ b → nat_eq note.seq (next_seq older) ≡ false
-              apart true h = absurd (true≢false (sym f ∙ past (eqb-true note.seq (next_seq older) h)))
+              apart : (b : Bool) → nat_eq note.place (next_place older) ≡ b → nat_eq note.place (next_place older) ≡ false
+              apart true h = absurd (true≢false (sym f ∙ past (eqb-true note.place (next_place older) h)))
               apart false h = h
 
               next : is_next note older ≡ false
-              next = λ i. named i && apart (nat_eq note.seq (next_seq older)) refl i
+              next = λ i. named i && apart (nat_eq note.place (next_place older)) refl i
 
   -- of another name
   other-few : is_accepted note.name older ≡ false → length (held_notes older) ≤ held_limit → few (length (waiting_notes older)) (length (different (early_notes (Delivers note ∷ older))))
@@ -248,7 +248,7 @@ module _ (note : Note) (older : List ReplicaTurn) (room : is_turned_away (arriva
           omega (arith, is, most)
       by true false e f =
           let is = ap (λ (notes : List Note). length (different notes)) (early true e) ∙ (λ i. length (cond (f i) (different (early_notes older)) (note ∷ different (early_notes older)))) in
-          let room_before = few-before (λ i. other i || e i) (λ i. cond (other i) (has_seq (received older) note.seq) (e i && f i)) (λ i. other i && nat_eq note.seq (next_seq older)) in
+          let room_before = few-before (λ i. other i || e i) (λ i. cond (other i) (has_place (received older) note.place) (e i && f i)) (λ i. other i && nat_eq note.place (next_place older)) in
           let parts = held-length older in
           omega (arith, is, room_before, parts)
 
@@ -268,7 +268,7 @@ module _ (note : Note) (older : List ReplicaTurn) (room : is_turned_away (arriva
       by false e =
           let is = held-length (Delivers note ∷ older) in
           let same : received (Delivers note ∷ older) ≡ received older = λ i. cond (e i) (note ∷ received older) (received older) in
-          let waiting = ap (λ (notes : List Note). length (filter (λ (n : Note). nat_lt (least_outside (length notes) 0 notes) n.seq) (different notes))) same in
+          let waiting = ap (λ (notes : List Note). length (filter (λ (n : Note). nat_lt (least_outside (length notes) 0 notes) n.place) (different notes))) same in
           let most = other-few e before in
           omega (arith, is, waiting, most)
 
@@ -289,7 +289,7 @@ few-held (Accepts name ∷ older) none =
     let rest = few-held older none.1 in
     let was = length-append (waiting_notes older) (different (early_notes older)) in
     let is = length-append (waiting_notes (Accepts name ∷ older)) [] in
-    let some = filter-less (λ (n : Note). nat_lt (next_seq (Accepts name ∷ older)) n.seq) (different (received (Accepts name ∷ older))) in
+    let some = filter-less (λ (n : Note). nat_lt (next_place (Accepts name ∷ older)) n.place) (different (received (Accepts name ∷ older))) in
     let less = different-less name (early_notes older) in
     omega (arith, rest, was, is, some, less)
 few-held (Refuses ∷ older) none =

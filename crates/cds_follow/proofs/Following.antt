@@ -262,7 +262,7 @@ module _ (token : List ℕ) (first : ℕ) (commands : List Command) (accepted : 
   notes-follow k known notes f (inr (note, rest, is, zeroth, none, above, stood, next)) =
       subst (λ (l : List Note). Follows token first commands k (with_notes l known)) (sym is)
       (subst (λ (d : Known). Follows token first commands k (heard_of (note ∷ rest) (with_changes d.held d (position known) (new_changes (position known) (note ∷ rest)))))
-      (sym (λ i. cond (eq-eqb note.seq 0 zeroth i && lt-ltb (position known) note.number above i) (load_begun known) known))
+      (sym (λ i. cond (eq-eqb note.place 0 zeroth i && lt-ltb (position known) note.number above i) (load_begun known) known))
       (drop-follows k known note rest f none above stood next))
 
   -- ---- replies

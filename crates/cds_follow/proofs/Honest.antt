@@ -11,7 +11,7 @@ use Rattle.cds_load.specs.Stages.{Held, Idle, HasCopy, Loads}
 use Rattle.cds_commands.specs.Commands.{Command, scans_of, oldest, AreAccepted}
 use Rattle.cds_commands.specs.Notes.{Note, notes_of, note_of, notes_from_to}
 use Rattle.cds_follow.specs.Copy.{least_unread, read_up_to}
-use Rattle.cds_follow.specs.Inbox.{ReplicaTurn, Shows, Accepts, Delivers, accepted as accepted_name, is_accepted, is_early, early_notes, received, least_outside, next_seq, missing, taken_by, arrival}
+use Rattle.cds_follow.specs.Inbox.{ReplicaTurn, Shows, Accepts, Delivers, accepted as accepted_name, is_accepted, is_early, early_notes, received, least_outside, next_place, missing, taken_by, arrival}
 use Rattle.cds_follow.specs.Follow.{Known, position, greatest_of, with_notes, known_by, is_turned_away, is_refused, and_turn, next_ask, copy_says, says_without_gap, says_of, says, rows_held, copied}
 use Rattle.cds_follow.specs.Given.{moment_after, Entry, Starts, Asks, Calls, Granted, Denied, Gets, length_at, asked_at, given_by, latest_length, IsGiven}
 use Rattle.cds_follow.specs.HonestLaws.{IsTaken, honest_calls_are_taken, honest_copies_stood}
@@ -33,7 +33,7 @@ use Rattle.cds_load.specs.Outcome.{after_outcome, is_no}
 pub record IsHearing (first : ℕ) (commands : List Command) (k : ℕ) (turns : List ReplicaTurn) (last_note : ℕ) : Type 0 where
   pub sent : (note : Note) → Among note (received turns) → Among note (notes_of first (oldest k commands)) × (accepted_name turns ≡ Some note.name)
   pub early : (note : Note) → Among note (early_notes turns) → Among note (notes_of first (oldest k commands))
-  pub last : (seq : ℕ) → seq < next_seq turns → (note : Note) × (note_of seq (received turns) ≡ Some note) × (note.number ≤ last_note)
+  pub last : (seq : ℕ) → seq < next_place turns → (note : Note) × (note_of seq (received turns) ≡ Some note) × (note.number ≤ last_note)
 
 module _ (token : List ℕ) (first : ℕ) (commands : List Command) (accepted : AreAccepted first commands) where
   hearing-later : (j k : ℕ) (turns : List ReplicaTurn) (last_note : ℕ) → j ≤ k → IsHearing first commands j turns last_note → IsHearing first commands k turns last_note
@@ -44,7 +44,7 @@ module _ (token : List ℕ) (first : ℕ) (commands : List Command) (accepted : 
   }
 
   -- a SEQ below the next one has a note
-  have-note : (turns : List ReplicaTurn) (seq : ℕ) → seq < next_seq turns → (note : Note) × (note_of seq (received turns) ≡ Some note)
+  have-note : (turns : List ReplicaTurn) (seq : ℕ) → seq < next_place turns → (note : Note) × (note_of seq (received turns) ≡ Some note)
   have-note turns seq l = has-note seq (received turns) ((longest-run turns).0 seq l)
 
   -- ---- notes that a turn lets the replica take
@@ -52,20 +52,20 @@ module _ (token : List ℕ) (first : ℕ) (commands : List Command) (accepted : 
   -- those from the next SEQ on, of all that are received then
   next-taken : (k name : ℕ) (older : List ReplicaTurn) (turn : ReplicaTurn) (at : ℕ)
       → ((note : Note) → Among note (received (turn ∷ older)) → IsSent first commands k name note) → (from : ℕ) → IsBefore first commands k name at from
-      → AreTaken token first commands k at (notes_from_to from (next_seq (turn ∷ older)) (received (turn ∷ older)))
+      → AreTaken token first commands k at (notes_from_to from (next_place (turn ∷ older)) (received (turn ∷ older)))
   next-taken k name older turn at sent from before =
-      run-taken token first commands k name (received (turn ∷ older)) sent (next_seq (turn ∷ older) - from) from at
+      run-taken token first commands k name (received (turn ∷ older)) sent (next_place (turn ∷ older) - from) from at
       (λ s low high. have-note (turn ∷ older) s (omega (arith, low, high))) before
 
   next-heard : (k name : ℕ) (older : List ReplicaTurn) (turn : ReplicaTurn) (last_note : ℕ)
       → ((note : Note) → Among note (received (turn ∷ older)) → IsSent first commands k name note) → (from : ℕ)
       → ((seq : ℕ) → seq < from → (note : Note) × (note_of seq (received (turn ∷ older)) ≡ Some note) × (note.number ≤ last_note))
-      → (seq : ℕ) → seq < next_seq (turn ∷ older) → (note : Note) × (note_of seq (received (turn ∷ older)) ≡ Some note)
-      × (note.number ≤ greatest_of last_note (notes_from_to from (next_seq (turn ∷ older)) (received (turn ∷ older))))
+      → (seq : ℕ) → seq < next_place (turn ∷ older) → (note : Note) × (note_of seq (received (turn ∷ older)) ≡ Some note)
+      × (note.number ≤ greatest_of last_note (notes_from_to from (next_place (turn ∷ older)) (received (turn ∷ older))))
   next-heard k name older turn last_note sent from before seq l = by (cases_lt seq from)
     where
       taken : List Note
-      taken = notes_from_to from (next_seq (turn ∷ older)) (received (turn ∷ older))
+      taken = notes_from_to from (next_place (turn ∷ older)) (received (turn ∷ older))
 
       by : (seq < from) ⊎ (from ≤ seq) → (note : Note) × (note_of seq (received (turn ∷ older)) ≡ Some note) × (note.number ≤ greatest_of last_note taken)
       by (inl m) = let b = before seq m in let low = b.2 in let least = greatest-least last_note taken in (b.0, b.1, omega (arith, low, least))
@@ -73,7 +73,7 @@ module _ (token : List ℕ) (first : ℕ) (commands : List Command) (accepted : 
           let note = have-note (turn ∷ older) seq l in (
             note.0,
             note.1,
-            run-heard token first commands k name (received (turn ∷ older)) sent (next_seq (turn ∷ older) - from) from last_note seq note.0
+            run-heard token first commands k name (received (turn ∷ older)) sent (next_place (turn ∷ older) - from) from last_note seq note.0
                 (λ t low high. have-note (turn ∷ older) t (omega (arith, low, high))) m (omega (arith, m, l)) note.1,
           )
 
@@ -107,7 +107,7 @@ module _ (token : List ℕ) (first : ℕ) (commands : List Command) (accepted : 
         by (inr b) = of-other other e b
 
     -- the note before the next SEQ
-    before : (e : is_accepted note.name turns ≡ true) → (n : ℕ) → next_seq turns ≡ n → IsBefore first commands k note.name (position (known_by turns)) n
+    before : (e : is_accepted note.name turns ≡ true) → (n : ℕ) → next_place turns ≡ n → IsBefore first commands k note.name (position (known_by turns)) n
     before e zero s = inl refl
     before e (suc n) s =
         let last = hearing.last n (omega (arith, s)) in
@@ -121,8 +121,8 @@ module _ (token : List ℕ) (first : ℕ) (commands : List Command) (accepted : 
       where
         by : (b : Bool) → is_accepted note.name turns ≡ b
             → AreTaken token first commands k (position (known_by turns))
-            (cond b (notes_from_to (next_seq turns) (next_seq (Delivers note ∷ turns)) (received (Delivers note ∷ turns))) [])
-        by true e = next-taken k note.name turns (Delivers note) (position (known_by turns)) (then-sent e) (next_seq turns) (before e (next_seq turns) refl)
+            (cond b (notes_from_to (next_place turns) (next_place (Delivers note ∷ turns)) (received (Delivers note ∷ turns))) [])
+        by true e = next-taken k note.name turns (Delivers note) (position (known_by turns)) (then-sent e) (next_place turns) (before e (next_place turns) refl)
         by false e = inl (refl, tt)
 
     delivered-early : (other : Note) → Among other (early_notes (Delivers note ∷ turns)) → Among other (notes_of first (oldest k commands))
@@ -147,19 +147,19 @@ module _ (token : List ℕ) (first : ℕ) (commands : List Command) (accepted : 
             by true e = let s = then-sent e other a in (s.0, of-name e ∙ ap Some (sym s.1))
             by false e = hearing.sent other (subst (λ (l : List Note). Among other l) (λ i. cond (e i) (note ∷ received turns) (received turns)) a)
 
-        last : (seq : ℕ) → seq < next_seq (Delivers note ∷ turns) → (n : Note) × (note_of seq (received (Delivers note ∷ turns)) ≡ Some n) × (n.number ≤ now)
+        last : (seq : ℕ) → seq < next_place (Delivers note ∷ turns) → (n : Note) × (note_of seq (received (Delivers note ∷ turns)) ≡ Some n) × (n.number ≤ now)
         last seq l = by (is_accepted note.name turns) refl
           where
-            old : (e : is_accepted note.name turns ≡ true) → (s : ℕ) → s < next_seq turns
+            old : (e : is_accepted note.name turns ≡ true) → (s : ℕ) → s < next_place turns
                 → (n : Note) × (note_of s (received (Delivers note ∷ turns)) ≡ Some n) × (n.number ≤ (known_by turns).last_note)
             old e s m = let was = hearing.last s m in (was.0, ap (note_of s) (then e) ∙ note-later s note was.0 (received turns) was.1, was.2)
 
             by : (b : Bool) → is_accepted note.name turns ≡ b → (n : Note) × (note_of seq (received (Delivers note ∷ turns)) ≡ Some n) × (n.number ≤ now)
             by true e =
-                let all = next-heard k note.name turns (Delivers note) (known_by turns).last_note (then-sent e) (next_seq turns) (old e) seq l in
+                let all = next-heard k note.name turns (Delivers note) (known_by turns).last_note (then-sent e) (next_place turns) (old e) seq l in
                 let low = all.2 in
-                let same : greatest_of (known_by turns).last_note (notes_from_to (next_seq turns) (next_seq (Delivers note ∷ turns)) (received (Delivers note ∷ turns))) ≡ now =
-                sym (is ∙ (λ i. greatest_of (known_by turns).last_note (cond (e i) (notes_from_to (next_seq turns) (next_seq (Delivers note ∷ turns)) (received (Delivers note ∷ turns))) []))) in
+                let same : greatest_of (known_by turns).last_note (notes_from_to (next_place turns) (next_place (Delivers note ∷ turns)) (received (Delivers note ∷ turns))) ≡ now =
+                sym (is ∙ (λ i. greatest_of (known_by turns).last_note (cond (e i) (notes_from_to (next_place turns) (next_place (Delivers note ∷ turns)) (received (Delivers note ∷ turns))) []))) in
                 (all.0, all.1, omega (arith, low, same))
             by false e =
                 let same : received (Delivers note ∷ turns) ≡ received turns = λ i. cond (e i) (note ∷ received turns) (received turns) in

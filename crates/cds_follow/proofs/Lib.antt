@@ -34,3 +34,4 @@ pub mod TakenOnce
 pub mod Told
 pub mod TrackEach
 pub mod Tracked
+pub mod Wire

@@ -8,9 +8,12 @@ use Rattle.std.proofs.lemmas.List.{map-append}
 use Rattle.cds_catalog.proofs.StepsWithin.{length-map}
 use Rattle.cds_object.specs.declared.event.Event.{Event}
 use Rattle.cds_commands.specs.Notes.{Note, note_of, notes_from_to, changes_above}
-use Rattle.cds_follow.specs.Inbox.{ReplicaTurn, Begins, Shows, Requests, Accepts, Refuses, Delivers, is_out, accepted, is_accepted, is_early, early_notes, received, has_seq, least_outside, next_seq, missing_of, missing, is_same_note, different, waiting_notes, held_notes, held_limit, taken_by, IsUnknown, IsRepeat, IsTooMany, IsEarly, IsHeld, IsNext, is_repeat, is_next, arrival}
+use Rattle.cds_follow.specs.Inbox.{ReplicaTurn, Begins, Shows, Requests, Accepts, Refuses, Delivers, is_out, accepted, is_accepted, is_early, early_notes, received, has_place, least_outside, next_place, missing_of, missing, is_same_note, different, waiting_notes, held_notes, held_limit, taken_by, IsUnknown, IsRepeat, IsTooMany, IsEarly, IsHeld, IsNext, is_repeat, is_next, arrival}
 use Rattle.cds_follow.specs.Follow.{Known, position, new_changes, greatest_of, is_drop, load_begun, heard_of, with_changes, with_notes, with_reply, known_by, is_turned_away, is_refused, and_turn, says_of, says}
 use Rattle.cds_follow.specs.Named.{named_note, named_turn, named}
+use Rattle.cds_commands.specs.Wire.{on_wire, note_at}
+use Rattle.cds_follow.specs.Wire.{place_near, is_heard, placed, arrival_by_seq, arrival_of, arrival_on_wire}
+use Rattle.cds_commands.specs.Places.{seq_at, place_of}
 use Rattle.cds_load.specs.Outcome.{Outcome, Goes, CannotBeRead, Jumps, Tears, after_outcome, is_no}
 
 -- a way to name subscriptions in which no two numbers have one name
@@ -22,6 +25,12 @@ pub record SameUnder (names : ℕ → ℕ) (turns : List ReplicaTurn) : Type 0 w
   pub knows : known_by (named names turns) ≡ known_by turns
   pub says_so : says (named names turns) ≡ says turns
   pub hears : (note : Note) → arrival (named_note names note) (named names turns) ≡ arrival note turns
+  pub nears : (name : ℕ) → place_near (names name) (named names turns) ≡ place_near name turns
+  pub is_heard_so : (name : ℕ) → is_heard (names name) (named names turns) ≡ is_heard name turns
+  pub comes : (wrap : ℕ) (note : Note) →
+      placed wrap (on_wire wrap (named_note names note)) (named names turns) ≡ option_map (named_note names) (placed wrap (on_wire wrap note) turns)
+  pub hears_on_wire : (wrap : ℕ) (note : Note) →
+      arrival_on_wire wrap (on_wire wrap (named_note names note)) (named names turns) ≡ arrival_on_wire wrap (on_wire wrap note) turns
   pub takes : (turn : ReplicaTurn) →
       with_notes (taken_by (named_turn names turn) (named names turns)) (known_by (named names turns)) ≡ with_notes (taken_by turn turns) (known_by turns)
   pub goes_on : (turn : ReplicaTurn) → and_turn (named_turn names turn) (named names turns) ≡ named names (and_turn turn turns)
@@ -101,29 +110,29 @@ module _ (names : ℕ → ℕ) (apart : TellAllApart names) where
 
   -- ---- the SEQs of notes
 
-  seq-same : (notes : List Note) (seq : ℕ) → has_seq (map tell notes) seq ≡ has_seq notes seq
+  seq-same : (notes : List Note) (seq : ℕ) → has_place (map tell notes) seq ≡ has_place notes seq
   seq-same [] seq = refl
-  seq-same (note ∷ notes) seq = ap (λ b. nat_eq note.seq seq || b) (seq-same notes seq)
+  seq-same (note ∷ notes) seq = ap (λ b. nat_eq note.place seq || b) (seq-same notes seq)
 
   least-same : (more seq : ℕ) (notes : List Note) → least_outside more seq (map tell notes) ≡ least_outside more seq notes
   least-same zero seq notes = refl
   least-same (suc more) seq notes = λ i. cond (seq-same notes seq i) (least-same more (seq + 1) notes i) seq
 
-  next-same : (turns : List ReplicaTurn) → next_seq (named names turns) ≡ next_seq turns
+  next-same : (turns : List ReplicaTurn) → next_place (named names turns) ≡ next_place turns
   next-same turns =
       ap (λ (notes : List Note). least_outside (length notes) 0 notes) (received-same turns)
       ∙ ap (λ (n : ℕ). least_outside n 0 (map tell (received turns))) (length-map tell (received turns))
       ∙ least-same (length (received turns)) 0 (received turns)
 
   above-same : (next : ℕ) (notes : List Note)
-      → list_any (λ (note : Note). nat_lt next note.seq) (map tell notes) ≡ list_any (λ (note : Note). nat_lt next note.seq) notes
+      → list_any (λ (note : Note). nat_lt next note.place) (map tell notes) ≡ list_any (λ (note : Note). nat_lt next note.place) notes
   above-same next [] = refl
-  above-same next (note ∷ notes) = ap (λ b. nat_lt next note.seq || b) (above-same next notes)
+  above-same next (note ∷ notes) = ap (λ b. nat_lt next note.place || b) (above-same next notes)
 
   missing-same : (turns : List ReplicaTurn) → missing (named names turns) ≡ missing turns
   missing-same turns =
       (λ i. missing_of (received-same turns i) (next-same turns i))
-      ∙ ap (λ b. cond b (Some (next_seq turns)) None) (above-same (next_seq turns) (received turns))
+      ∙ ap (λ b. cond b (Some (next_place turns)) None) (above-same (next_place turns) (received turns))
 
   -- ---- the notes that are taken
 
@@ -137,7 +146,7 @@ module _ (names : ℕ → ℕ) (apart : TellAllApart names) where
 
       by : (o : Option Note) → note_of seq notes ≡ o → note_of seq (map tell notes) ≡ option_map tell (note_of seq notes)
           → note_of seq (map tell (note ∷ notes)) ≡ option_map tell (note_of seq (note ∷ notes))
-      by None e r = rw r (rw e (here (nat_eq note.seq seq)))
+      by None e r = rw r (rw e (here (nat_eq note.place seq)))
       by (Some first) e r = rw r (rw e refl)
 
   from_to-same : (from to : ℕ) (notes : List Note) → notes_from_to from to (map tell notes) ≡ map tell (notes_from_to from to notes)
@@ -157,16 +166,16 @@ module _ (names : ℕ → ℕ) (apart : TellAllApart names) where
   taken-same Requests turns = refl
   taken-same (Accepts name) turns =
       (λ i. notes_from_to 0 (next-same (Accepts name ∷ turns) i) (received-same (Accepts name ∷ turns) i))
-      ∙ from_to-same 0 (next_seq (Accepts name ∷ turns)) (received (Accepts name ∷ turns))
+      ∙ from_to-same 0 (next_place (Accepts name ∷ turns)) (received (Accepts name ∷ turns))
   taken-same Refuses turns = refl
   taken-same (Delivers note) turns =
       (λ i. cond (is_accepted-same note.name turns i)
       (notes_from_to (next-same turns i) (next-same (Delivers note ∷ turns) i) (received-same (Delivers note ∷ turns) i)) [])
       ∙ by (is_accepted note.name turns)
     where
-      by : (b : Bool) → cond b (notes_from_to (next_seq turns) (next_seq (Delivers note ∷ turns)) (map tell (received (Delivers note ∷ turns)))) []
-          ≡ map tell (cond b (notes_from_to (next_seq turns) (next_seq (Delivers note ∷ turns)) (received (Delivers note ∷ turns))) [])
-      by true = from_to-same (next_seq turns) (next_seq (Delivers note ∷ turns)) (received (Delivers note ∷ turns))
+      by : (b : Bool) → cond b (notes_from_to (next_place turns) (next_place (Delivers note ∷ turns)) (map tell (received (Delivers note ∷ turns)))) []
+          ≡ map tell (cond b (notes_from_to (next_place turns) (next_place (Delivers note ∷ turns)) (received (Delivers note ∷ turns))) [])
+      by true = from_to-same (next_place turns) (next_place (Delivers note ∷ turns)) (received (Delivers note ∷ turns))
       by false = refl
 
   -- ---- what is known
@@ -211,7 +220,7 @@ module _ (names : ℕ → ℕ) (apart : TellAllApart names) where
   -- ---- what becomes of a note
 
   one-same : (note other : Note) → is_same_note (tell note) (tell other) ≡ is_same_note note other
-  one-same note other = ap (λ b. b && nat_eq note.seq other.seq) (same-name note.name other.name)
+  one-same note other = ap (λ b. b && nat_eq note.place other.place) (same-name note.name other.name)
 
   among-same : (note : Note) (notes : List Note) → list_any (is_same_note (tell note)) (map tell notes) ≡ list_any (is_same_note note) notes
   among-same note [] = refl
@@ -227,17 +236,17 @@ module _ (names : ℕ → ℕ) (apart : TellAllApart names) where
       by false = refl
 
   above-filter : (next : ℕ) (notes : List Note)
-      → filter (λ (note : Note). nat_lt next note.seq) (map tell notes) ≡ map tell (filter (λ (note : Note). nat_lt next note.seq) notes)
+      → filter (λ (note : Note). nat_lt next note.place) (map tell notes) ≡ map tell (filter (λ (note : Note). nat_lt next note.place) notes)
   above-filter next [] = refl
   above-filter next (note ∷ notes) =
-      (λ i. cond (nat_lt next note.seq) (tell note ∷ above-filter next notes i) (above-filter next notes i))
-      ∙ cond-tell (nat_lt next note.seq) note (filter (λ (n : Note). nat_lt next n.seq) notes)
+      (λ i. cond (nat_lt next note.place) (tell note ∷ above-filter next notes i) (above-filter next notes i))
+      ∙ cond-tell (nat_lt next note.place) note (filter (λ (n : Note). nat_lt next n.place) notes)
 
   waiting-same : (turns : List ReplicaTurn) → waiting_notes (named names turns) ≡ map tell (waiting_notes turns)
   waiting-same turns =
-      (λ i. filter (λ (note : Note). nat_lt (next-same turns i) note.seq) (different (received-same turns i)))
-      ∙ ap (filter (λ (note : Note). nat_lt (next_seq turns) note.seq)) (different-same (received turns))
-      ∙ above-filter (next_seq turns) (different (received turns))
+      (λ i. filter (λ (note : Note). nat_lt (next-same turns i) note.place) (different (received-same turns i)))
+      ∙ ap (filter (λ (note : Note). nat_lt (next_place turns) note.place)) (different-same (received turns))
+      ∙ above-filter (next_place turns) (different (received turns))
 
   held-many : (turns : List ReplicaTurn) → length (held_notes (named names turns)) ≡ length (held_notes turns)
   held-many turns =
@@ -248,12 +257,12 @@ module _ (names : ℕ → ℕ) (apart : TellAllApart names) where
 
   repeat-same : (note : Note) (turns : List ReplicaTurn) → is_repeat (tell note) (named names turns) ≡ is_repeat note turns
   repeat-same note turns =
-      (λ i. cond (is_accepted-same note.name turns i) (has_seq (received-same turns i) note.seq)
+      (λ i. cond (is_accepted-same note.name turns i) (has_place (received-same turns i) note.place)
       (out-same turns i && list_any (is_same_note (tell note)) (early-same turns i)))
-      ∙ (λ i. cond (is_accepted note.name turns) (seq-same (received turns) note.seq i) (is_out turns && among-same note (early_notes turns) i))
+      ∙ (λ i. cond (is_accepted note.name turns) (seq-same (received turns) note.place i) (is_out turns && among-same note (early_notes turns) i))
 
   next-is : (note : Note) (turns : List ReplicaTurn) → is_next (tell note) (named names turns) ≡ is_next note turns
-  next-is note turns = λ i. is_accepted-same note.name turns i && nat_eq note.seq (next-same turns i)
+  next-is note turns = λ i. is_accepted-same note.name turns i && nat_eq note.place (next-same turns i)
 
   arrival-same : (note : Note) (turns : List ReplicaTurn) → arrival (tell note) (named names turns) ≡ arrival note turns
   arrival-same note turns =
@@ -261,7 +270,34 @@ module _ (names : ℕ → ℕ) (apart : TellAllApart names) where
       (cond (repeat-same note turns i) IsRepeat
       (cond (not (next-is note turns i) && nat_le held_limit (held-many turns i)) (IsTooMany (held-many turns i))
       (cond (not (is_accepted-same note.name turns i)) IsEarly
-      (cond (nat_lt (next-same turns i) note.seq) (IsHeld (next-same turns i)) IsNext))))
+      (cond (nat_lt (next-same turns i) note.place) (IsHeld (next-same turns i)) IsNext))))
+
+  -- ---- notes on the wire
+
+  near-same : (name : ℕ) (turns : List ReplicaTurn) → place_near (names name) (named names turns) ≡ place_near name turns
+  near-same name turns = λ i. cond (is_accepted-same name turns i) (next-same turns i) 0
+
+  is_heard-same : (name : ℕ) (turns : List ReplicaTurn) → is_heard (names name) (named names turns) ≡ is_heard name turns
+  is_heard-same name turns = λ i. is_accepted-same name turns i || out-same turns i
+
+  placed-same : (wrap : ℕ) (note : Note) (turns : List ReplicaTurn)
+      → placed wrap (on_wire wrap (tell note)) (named names turns) ≡ option_map tell (placed wrap (on_wire wrap note) turns)
+  placed-same wrap note turns =
+      ap (λ n. option_map (note_at (on_wire wrap (tell note))) (place_of wrap n (seq_at wrap note.place))) (near-same note.name turns)
+      ∙ by (place_of wrap (place_near note.name turns) (seq_at wrap note.place))
+    where
+      by : (o : Option ℕ) → option_map (note_at (on_wire wrap (tell note))) o ≡ option_map tell (option_map (note_at (on_wire wrap note)) o)
+      by None = refl
+      by (Some place) = refl
+
+  wire-same : (wrap : ℕ) (note : Note) (turns : List ReplicaTurn)
+      → arrival_on_wire wrap (on_wire wrap (tell note)) (named names turns) ≡ arrival_on_wire wrap (on_wire wrap note) turns
+  wire-same wrap note turns =
+      ap (λ (o : Option Note). arrival_of wrap o (named names turns)) (placed-same wrap note turns) ∙ by (placed wrap (on_wire wrap note) turns)
+    where
+      by : (o : Option Note) → arrival_of wrap (option_map tell o) (named names turns) ≡ arrival_of wrap o turns
+      by None = refl
+      by (Some other) = ap (arrival_by_seq wrap) (arrival-same other turns)
 
   outcome-same : (turn : ReplicaTurn) (turns : List ReplicaTurn)
       → with_notes (taken_by (named_turn names turn) (named names turns)) (known_by (named names turns)) ≡ with_notes (taken_by turn turns) (known_by turns)
@@ -287,6 +323,10 @@ names-same names turns apart = record {
   knows = known-same names apart turns;
   says_so = λ i. says_of (missing-same names apart turns i) (known-same names apart turns i);
   hears = λ note. arrival-same names apart note turns;
+  nears = λ name. near-same names apart name turns;
+  is_heard_so = λ name. is_heard-same names apart name turns;
+  comes = λ wrap note. placed-same names apart wrap note turns;
+  hears_on_wire = λ wrap note. wire-same names apart wrap note turns;
   takes = λ turn. outcome-same names apart turn turns;
   goes_on = λ turn. and-same names apart turn turns;
 }

@@ -1,7 +1,8 @@
 -- Names that tell some numbers apart go on to names that tell all numbers apart: those of other numbers are above all of them. So
 -- what a replica knows does not depend on the names of the subscriptions in its turns.
-use Rattle.std.proofs.Common.{◌≡◌, ◌⊎◌, inl, inr, ◌+◌, ◌-◌, ◌<◌, ◌≤◌, ℕ, suc, max, Bool, true, false, cond, ◌||◌, nat_eq, List, [], ◌∷◌, length, refl, sym, ap, ◌∙◌, subst, arith, eqb-true, eq-eqb, true≢false}
+use Rattle.std.proofs.Common.{◌≡◌, ◌⊎◌, inl, inr, ◌+◌, ◌-◌, ◌<◌, ◌≤◌, ℕ, suc, max, Bool, true, false, cond, ◌||◌, nat_eq, List, [], ◌∷◌, length, refl, sym, ap, ◌∙◌, arith, eqb-true, eq-eqb, true≢false}
 use Rattle.std.specs.List.{AllByRecursion, Contains, list_any}
+use Rattle.std.specs.Option.{option_map}
 use Rattle.std.specs.Prelude.{Option, Some, None}
 use Rattle.cds_load.specs.Server.{Moment, reply_to}
 use Rattle.cds_load.specs.declared.exchange.Ask.{Ask}
@@ -12,8 +13,11 @@ use Rattle.cds_commands.proofs.Among.{Among, among-contained, among-all, among-r
 use Rattle.cds_commands.proofs.Sent.{Sound, all-sound}
 use Rattle.cds_follow.specs.Inbox.{ReplicaTurn, Begins, Shows, Requests, Accepts, Refuses, Delivers, taken_by, arrival}
 use Rattle.cds_follow.specs.Follow.{known_by, next_ask, and_turn, is_refused, says, with_notes}
-use Rattle.cds_follow.specs.Given.{grants_of, moment_after, Entry, Starts, Asks, Calls, Granted, Denied, Gets, asked_at, given_by, length_before_call, IsHonest, IsGiven}
+use Rattle.cds_follow.specs.Given.{grants_of, moment_after, Entry, Starts, Asks, Calls, Granted, Denied, Gets, asked_at, given_by, length_before_call, IsGiven}
 use Rattle.cds_follow.specs.Named.{TellApart, IsNamedIn, named_note, named_turn, named, KnowsTheSame, names_do_not_matter}
+use Rattle.cds_commands.specs.Wire.{on_wire, note_at}
+use Rattle.cds_follow.specs.Wire.{place_near, placed, arrival_on_wire}
+use Rattle.cds_commands.specs.Places.{seq_at, place_of}
 use Rattle.cds_follow.proofs.Came.{contained-among}
 use Rattle.cds_follow.proofs.Delivered.{granted-drop}
 use Rattle.cds_follow.proofs.Named.{TellAllApart, SameUnder, names-same}
@@ -88,7 +92,7 @@ module _ (names : ℕ → ℕ) (numbers : List ℕ) (apart : TellApart names num
       by false false b c f = omega (arith, f)
 
   note-wider : (note : Note) → Contains numbers note.name → named_note wider note ≡ named_note names note
-  note-wider note c = λ i. record { name = wider-is note.name c i; seq = note.seq; number = note.number; events = note.events }
+  note-wider note c = λ i. record { name = wider-is note.name c i; place = note.place; number = note.number; events = note.events }
 
   turn-wider : (turn : ReplicaTurn) → IsNamedIn numbers turn → named_turn wider turn ≡ named_turn names turn
   turn-wider Begins is = refl
@@ -102,6 +106,14 @@ module _ (names : ℕ → ℕ) (numbers : List ℕ) (apart : TellApart names num
   turns-wider [] all = refl
   turns-wider (turn ∷ older) all = λ i. turn-wider turn all.0 i ∷ turns-wider older all.1 i
 
+  placed-wider : (wrap : ℕ) (note : Note) (turns : List ReplicaTurn) → Contains numbers note.name →
+      option_map (named_note wider) (placed wrap (on_wire wrap note) turns) ≡ option_map (named_note names) (placed wrap (on_wire wrap note) turns)
+  placed-wider wrap note turns c = by (place_of wrap (place_near note.name turns) (seq_at wrap note.place))
+    where
+      by : (o : Option ℕ) → option_map (named_note wider) (option_map (note_at (on_wire wrap note)) o) ≡ option_map (named_note names) (option_map (note_at (on_wire wrap note)) o)
+      by None = refl
+      by (Some place) = ap Some (note-wider (note_at (on_wire wrap note) place) c)
+
   same-in : (turns : List ReplicaTurn) → AllByRecursion (IsNamedIn numbers) turns → KnowsTheSame names numbers turns
   same-in turns all =
       let same : SameUnder wider turns = names-same wider turns wider-apart in
@@ -110,6 +122,9 @@ module _ (names : ℕ → ℕ) (numbers : List ℕ) (apart : TellApart names num
         knows = ap known_by (sym are) ∙ same.knows;
         says_so = ap says (sym are) ∙ same.says_so;
         hears = λ note c. (λ i. arrival (sym (note-wider note c) i) (sym are i)) ∙ same.hears note;
+        comes = λ wrap note c. (λ i. placed wrap (on_wire wrap (sym (note-wider note c) i)) (sym are i)) ∙ same.comes wrap note
+            ∙ placed-wider wrap note turns c;
+        hears_on_wire = λ wrap note c. (λ i. arrival_on_wire wrap (on_wire wrap (sym (note-wider note c) i)) (sym are i)) ∙ same.hears_on_wire wrap note;
         takes = λ turn is. (λ i. with_notes (taken_by (sym (turn-wider turn is) i) (sym are i)) (known_by (sym are i))) ∙ same.takes turn;
         goes_on = λ turn is. (λ i. and_turn (sym (turn-wider turn is) i) (sym are i)) ∙ same.goes_on turn
             ∙ turns-wider (and_turn turn turns) (and-named numbers turn turns is all);

@@ -187,7 +187,7 @@ AreNext token first commands k at (note ∷ notes) =
 abbrev pub AreTaken : List ℕ → ℕ → List Command → ℕ → ℕ → List Note → Type 0
 AreTaken token first commands k at notes =
     ((is_drop at notes ≡ false) × AreNext token first commands k at notes)
-    ⊎ ((note : Note) × (rest : List Note) × (notes ≡ note ∷ rest) × (note.seq ≡ 0) × (note.events ≡ []) × (at < note.number)
+    ⊎ ((note : Note) × (rest : List Note) × (notes ≡ note ∷ rest) × (note.place ≡ 0) × (note.events ≡ []) × (at < note.number)
     × ((j : ℕ) × (j ≤ k) × (note.number ≡ (served token first commands j).number)) × AreNext token first commands k note.number rest)
 
 module _ (token : List ℕ) (first : ℕ) (commands : List Command) (accepted : AreAccepted first commands) where

@@ -4,7 +4,7 @@ use Rattle.std.specs.List.{range_with_len, filter_map, cons_option}
 use Rattle.std.proofs.lemmas.Bool.{cases_lt, eqb-false}
 use Rattle.cds_commands.specs.Commands.{Command, scans_of, oldest}
 use Rattle.cds_commands.specs.Notes.{Note, notes_of, note_of, changes_above}
-use Rattle.cds_follow.specs.Inbox.{has_seq}
+use Rattle.cds_follow.specs.Inbox.{has_place}
 use Rattle.cds_follow.specs.Follow.{greatest_of, is_drop}
 use Rattle.cds_follow.specs.ServerLaws.{served}
 use Rattle.cds_commands.proofs.Among.{Among, among-all}
@@ -23,7 +23,7 @@ IsSent first commands k name note = Among note (notes_of first (oldest k command
 -- before a SEQ: it is the first, or the note before it was sent, and its number is not above a position
 abbrev pub IsBefore : ℕ → List Command → ℕ → ℕ → ℕ → ℕ → Type 0
 IsBefore first commands k name at seq =
-    (seq ≡ 0) ⊎ ((before : Note) × IsSent first commands k name before × (before.seq + 1 ≡ seq) × (before.number ≤ at))
+    (seq ≡ 0) ⊎ ((before : Note) × IsSent first commands k name before × (before.place + 1 ≡ seq) × (before.number ≤ at))
 
 module _ (token : List ℕ) (first : ℕ) (commands : List Command) (k name : ℕ) (received : List Note)
     (sent : (note : Note) → Among note received → IsSent first commands k name note) where
@@ -39,14 +39,14 @@ module _ (token : List ℕ) (first : ℕ) (commands : List Command) (k name : �
 
   -- notes that go on from one before them
   run-next : (n seq at : ℕ) → ((s : ℕ) → seq ≤ s → s < seq + n → (note : Note) × (note_of s received ≡ Some note))
-      → (before : Note) × IsSent first commands k name before × (before.seq + 1 ≡ seq) × (before.number ≤ at) → AreNext token first commands k at (run seq n)
+      → (before : Note) × IsSent first commands k name before × (before.place + 1 ≡ seq) × (before.number ≤ at) → AreNext token first commands k at (run seq n)
   run-next zero seq at have b = tt
   run-next (suc n) seq at have b =
       let here = have seq (omega arith) (omega arith) in
       on here.0 here.1 (λ note c. run-next n (seq + 1) (max at note.number) (λ s low high. have s (omega (arith, low)) (omega (arith, high))) c)
     where
       on : (note : Note) → note_of seq received ≡ Some note
-          → ((m : Note) → (before : Note) × IsSent first commands k name before × (before.seq + 1 ≡ seq + 1) × (before.number ≤ max at m.number) → AreNext token first commands k (max at m.number) (run (seq + 1) n))
+          → ((m : Note) → (before : Note) × IsSent first commands k name before × (before.place + 1 ≡ seq + 1) × (before.number ≤ max at m.number) → AreNext token first commands k (max at m.number) (run (seq + 1) n))
           → AreNext token first commands k at (run seq (suc n))
       on note e r =
           let a = note-among seq received note e in
@@ -72,7 +72,7 @@ module _ (token : List ℕ) (first : ℕ) (commands : List Command) (k name : �
       let next = b.2 in
       inl (
         (λ i. is_drop at (cons_option (here.1 i) (run (seq + 1) n)))
-            ∙ (λ i. ne_eqb here.0.seq 0 (λ e. omega (arith, e, is, next)) i && nat_lt at here.0.number),
+            ∙ (λ i. ne_eqb here.0.place 0 (λ e. omega (arith, e, is, next)) i && nat_lt at here.0.number),
         run-next (suc n) seq at have b,
       )
   run-taken (suc n) seq at have (inl zeroth) = by (cases_lt at note.number)
@@ -83,7 +83,7 @@ module _ (token : List ℕ) (first : ℕ) (commands : List Command) (k name : �
       note : Note
       note = here.0
 
-      among : Among note received × (note.seq ≡ seq)
+      among : Among note received × (note.place ≡ seq)
       among = note-among seq received here.0 here.1
 
       s : IsSent first commands k name note
@@ -111,7 +111,7 @@ module _ (token : List ℕ) (first : ℕ) (commands : List Command) (k name : �
           )
       by (inr low) =
           subst (λ (o : Option Note). AreTaken token first commands k at (cons_option o (run (seq + 1) n))) (sym here.1) (inl (
-            (λ i. nat_eq note.seq 0 && le-ltb at note.number low i) ∙ neither (nat_eq note.seq 0),
+            (λ i. nat_eq note.place 0 && le-ltb at note.number low i) ∙ neither (nat_eq note.place 0),
             (stood note s, (λ p l. ap (changes_above p) none ∙ sym (none-told (scans_of first commands) p note.number (omega (arith, l, low)))), rest),
           ))
         where
@@ -146,14 +146,14 @@ module _ (token : List ℕ) (first : ℕ) (commands : List Command) (k name : �
       by m f false x r = r (max h m.number) (apart (eqb-false s seq x))
 
 -- a SEQ that was received has a note
-pub has-note : (seq : ℕ) (notes : List Note) → has_seq notes seq ≡ true → (note : Note) × (note_of seq notes ≡ Some note)
+pub has-note : (seq : ℕ) (notes : List Note) → has_place notes seq ≡ true → (note : Note) × (note_of seq notes ≡ Some note)
 has-note seq notes e = let found = any notes e in among-note seq notes found.0 found.1 found.2
   where
-    any : (xs : List Note) → has_seq xs seq ≡ true → (note : Note) × Among note xs × (note.seq ≡ seq)
+    any : (xs : List Note) → has_place xs seq ≡ true → (note : Note) × Among note xs × (note.place ≡ seq)
     any [] h = absurd (true≢false (sym h))
-    any (x ∷ xs) h = by (nat_eq x.seq seq) refl h (any xs)
+    any (x ∷ xs) h = by (nat_eq x.place seq) refl h (any xs)
       where
-        by : (b : Bool) → nat_eq x.seq seq ≡ b → b || has_seq xs seq ≡ true → (has_seq xs seq ≡ true → (note : Note) × Among note xs × (note.seq ≡ seq))
-            → (note : Note) × Among note (x ∷ xs) × (note.seq ≡ seq)
-        by true q h r = (x, inl refl, eqb-true x.seq seq q)
+        by : (b : Bool) → nat_eq x.place seq ≡ b → b || has_place xs seq ≡ true → (has_place xs seq ≡ true → (note : Note) × Among note xs × (note.place ≡ seq))
+            → (note : Note) × Among note (x ∷ xs) × (note.place ≡ seq)
+        by true q h r = (x, inl refl, eqb-true x.place seq q)
         by false q h r = let found = r h in (found.0, inr found.1, found.2)

@@ -9,13 +9,15 @@ use Rattle.cds_commands.specs.Commands.{Start, Command, Scans, Grants, Ends, Tic
 use Rattle.cds_commands.specs.Names.{name_of}
 use Rattle.cds_commands.specs.Notes.{Note, notes_of}
 use Rattle.cds_commands.specs.Examples.{one, another, two, first, added, added_other}
-use Rattle.cds_follow.specs.Inbox.{ReplicaTurn, Requests, Accepts, Delivers, received, held_notes, taken_by}
+use Rattle.cds_follow.specs.Inbox.{ReplicaTurn, Requests, Accepts, Delivers, IsUnknown, IsEarly, IsHeld, IsNext, received, held_notes, taken_by}
 use Rattle.cds_load.specs.Outcome.{Jumps, Tears}
 use Rattle.cds_follow.specs.Copy.{Happening, Changes, Reads}
 use Rattle.cds_follow.specs.CourseLaws.{stands_by, course_of}
 use Rattle.cds_follow.specs.Follow.{position, with_notes, known_by, next_ask, copied, says, and_turn, is_refused}
 use Rattle.cds_follow.specs.Given.{Entry, Starts, Asks, Calls, Granted, Gets, given_by, IsGiven, grants_of}
 use Rattle.cds_follow.specs.Named.{TellApart}
+use Rattle.cds_commands.specs.Wire.{on_wire}
+use Rattle.cds_follow.specs.Wire.{placed, says_on_wire, arrival_on_wire, is_recent}
 use Rattle.cds_follow.specs.declared.says.Says.{Says}
 use Rattle.cds_follow.specs.declared.says.Says.TheVariants.{Gap, BehindLoad, BehindRead, BehindVersion, Stands}
 
@@ -24,10 +26,10 @@ abbrev pub a_token : List ℕ
 a_token = codes "a"
 
 abbrev pub deleted : Note
-deleted = record { name = 1; seq = 2; number = 2; events = ObjDel 1 2 false ∷ [] }
+deleted = record { name = 1; place = 2; number = 2; events = ObjDel 1 2 false ∷ [] }
 
 abbrev pub modified : Note
-modified = record { name = 1; seq = 2; number = 2; events = ObjMod 1 2 false ∷ [] }
+modified = record { name = 1; place = 2; number = 2; events = ObjMod 1 2 false ∷ [] }
 
 -- a whole load of the empty library, then a subscription and its first note; the newest entry is the first
 abbrev pub prepared : List Entry
@@ -95,13 +97,13 @@ reads_stand_between_notes =
 -- notes that no honest server sends, taken at once, are judged as one. Only the first change above the position has to be the
 -- next one, and this is judged before what cannot be
 abbrev pub leaps : Note
-leaps = record { name = 1; seq = 2; number = 5; events = ObjAdd 2 5 false 0 Track ∷ [] }
+leaps = record { name = 1; place = 2; number = 5; events = ObjAdd 2 5 false 0 Track ∷ [] }
 
 abbrev pub strays : Note
-strays = record { name = 1; seq = 1; number = 1; events = ObjMod 7 1 false ∷ [] }
+strays = record { name = 1; place = 1; number = 1; events = ObjMod 7 1 false ∷ [] }
 
 abbrev pub jumps : Note
-jumps = record { name = 1; seq = 1; number = 5; events = ObjMod 7 5 false ∷ [] }
+jumps = record { name = 1; place = 1; number = 5; events = ObjMod 7 5 false ∷ [] }
 
 abbrev pub leapt : List ReplicaTurn
 leapt = and_turn (Delivers leaps) (given_by a_token 0 tracks_come prepared)
@@ -114,11 +116,11 @@ notes_taken_at_once =
     × (says (and_turn (Delivers added) (and_turn (Delivers leaps) (given_by a_token 0 tracks_come prepared))) ≡ BehindRead 1)
     × (is_refused (Delivers strays) (and_turn (Delivers leaps) (given_by a_token 0 tracks_come prepared)) ≡ true)
     × (says (and_turn (Delivers strays) (and_turn (Delivers leaps) (given_by a_token 0 tracks_come prepared))) ≡ Gap 1)
-    × (is_refused (Delivers (record { name = 1; seq = 1; number = 5; events = ObjAdd 2 5 false 0 Track ∷ [] })) (given_by a_token 0 tracks_come prepared) ≡ true)
+    × (is_refused (Delivers (record { name = 1; place = 1; number = 5; events = ObjAdd 2 5 false 0 Track ∷ [] })) (given_by a_token 0 tracks_come prepared) ≡ true)
 
 -- early notes of several names: those of the accepted one are received, and the second request drops those of the first
 abbrev pub of_other : Note
-of_other = record { name = 2; seq = 0; number = 0; events = [] }
+of_other = record { name = 2; place = 0; number = 0; events = [] }
 
 abbrev pub early_notes_are_dropped : Type 0
 early_notes_are_dropped =
@@ -141,7 +143,7 @@ abbrev pub subscribed_anew : List Command
 subscribed_anew = Grants 200 [] 1800 ∷ Ends 0 1 ∷ Ticks 200 ∷ Scans one ∷ Grants 0 [] 1800 ∷ []
 
 abbrev pub first_anew : Note
-first_anew = record { name = 2; seq = 0; number = 1; events = [] }
+first_anew = record { name = 2; place = 0; number = 1; events = [] }
 
 abbrev pub accepted_anew : List Entry
 accepted_anew = Granted 5 2 ∷ Calls 4 ∷ prepared
@@ -153,7 +155,7 @@ abbrev pub loading : List Entry
 loading = Granted 2 1 ∷ Calls 1 ∷ Asks 0 ∷ Asks 0 ∷ Starts 0 ∷ []
 
 abbrev pub first_late : Note
-first_late = record { name = 1; seq = 0; number = 1; events = [] }
+first_late = record { name = 1; place = 0; number = 1; events = [] }
 
 abbrev pub first_notes_drop : Type 0
 first_notes_drop =
@@ -173,10 +175,10 @@ abbrev pub came_and_went : List Command
 came_and_went = Ticks 200 ∷ Grants 0 [] 1800 ∷ Scans [] ∷ Scans one ∷ []
 
 abbrev pub first_early : Note
-first_early = record { name = 1; seq = 0; number = 2; events = [] }
+first_early = record { name = 1; place = 0; number = 2; events = [] }
 
 abbrev pub overlaps : Note
-overlaps = record { name = 1; seq = 1; number = 2; events = ObjAdd 1 1 false 0 Track ∷ ObjDel 1 2 false ∷ [] }
+overlaps = record { name = 1; place = 1; number = 2; events = ObjAdd 1 1 false 0 Track ∷ ObjDel 1 2 false ∷ [] }
 
 abbrev pub changes_are_not_counted_again : Type 0
 changes_are_not_counted_again =
@@ -186,9 +188,30 @@ changes_are_not_counted_again =
 
 -- the premises of the laws on honest servers hold of the notes out of order, with the names of a server whose boot words are 0
 abbrev pub a_start : Start
-a_start = record { high = 0; low = 0; first = 0 }
+a_start = record { high = 0; low = 0; first = 0; wrap = 4294967295 }
 
 abbrev pub premises_hold : Type 0
 premises_hold =
     AreAccepted 0 tracks_come × IsGiven a_token 0 tracks_come (Asks 5 ∷ Asks 5 ∷ Gets 5 added ∷ Gets 5 added_other ∷ prepared)
     × TellApart (name_of a_start) (grants_of tracks_come)
+
+-- notes on the wire, if SEQs wrap after 256, of a replica that took the first one. A note within reach is given its place. One
+-- past it is unknown. One of a whole wrap later is taken for another, and so it is not recent
+abbrev pub note_of_place : ℕ → Note
+note_of_place place = record { name = 1; place = place; number = place; events = [] }
+
+abbrev pub heard_first : List ReplicaTurn
+heard_first = Delivers first ∷ Accepts 1 ∷ Requests ∷ []
+
+abbrev pub notes_on_the_wire : Type 0
+notes_on_the_wire =
+    (arrival_on_wire 256 (on_wire 256 (note_of_place 1)) heard_first ≡ IsNext)
+    × (arrival_on_wire 256 (on_wire 256 (note_of_place 65)) heard_first ≡ IsHeld 1)
+    × (arrival_on_wire 256 (on_wire 256 (note_of_place 66)) heard_first ≡ IsUnknown)
+    × (placed 256 (on_wire 256 (note_of_place 65)) heard_first ≡ Some (note_of_place 65))
+    × (placed 256 (on_wire 256 (note_of_place 66)) heard_first ≡ None)
+    × (placed 256 (on_wire 256 (note_of_place 257)) heard_first ≡ Some (record { name = 1; place = 1; number = 257; events = [] }))
+    × (is_recent 256 (note_of_place 192) heard_first ≡ true) × (is_recent 256 (note_of_place 193) heard_first ≡ false)
+    × (says_on_wire 256 (Delivers (note_of_place 65) ∷ heard_first) ≡ Gap 1)
+    × (arrival_on_wire 256 (on_wire 256 of_other) heard_first ≡ IsUnknown)
+    × (arrival_on_wire 256 (on_wire 256 of_other) (Requests ∷ heard_first) ≡ IsEarly)

@@ -72,7 +72,7 @@ greatest_of number (note ∷ notes) = greatest_of (max number note.number) notes
 -- a first note above the position drops the copy and begins a load. It is the first of the notes that are taken with it
 abbrev pub is_drop : ℕ → List Note → Bool
 is_drop at [] = false
-is_drop at (note ∷ notes) = nat_eq note.seq 0 && nat_lt at note.number
+is_drop at (note ∷ notes) = nat_eq note.place 0 && nat_lt at note.number
 
 abbrev pub dropped : List Note → Known → Known
 dropped notes known = cond (is_drop (position known) notes) (load_begun known) known
@@ -81,7 +81,7 @@ dropped notes known = cond (is_drop (position known) notes) (load_begun known) k
 abbrev pub heard_of : List Note → Outcome Known → Outcome Known
 heard_of notes = outcome_map (λ (known : Known). record known { last_note = greatest_of known.last_note notes })
 
--- what becomes of notes that are to be taken, in ascending order of SEQs
+-- what becomes of notes that are to be taken, in ascending order of places
 abbrev pub with_notes : List Note → Known → Outcome Known
 with_notes notes known =
     heard_of notes (with_changes (dropped notes known).held (dropped notes known) (position known) (new_changes (position known) notes))
@@ -153,7 +153,7 @@ is_turned_away IsUnknown = true
 is_turned_away IsRepeat = false
 is_turned_away (IsTooMany held) = true
 is_turned_away IsEarly = false
-is_turned_away (IsHeld seq) = false
+is_turned_away (IsHeld place) = false
 is_turned_away IsNext = false
 
 -- whether a turn is refused after the older ones
@@ -190,9 +190,9 @@ says_without_gap known Idle = BehindLoad
 says_without_gap known (Loads stage) = BehindLoad
 says_without_gap known (HasCopy number rows) = copy_says known (least_unread known.happenings)
 
--- what a replica says: a SEQ that is missing goes before all else
+-- what a replica says: a place that is missing goes before all else
 abbrev pub says_of : Option ℕ → Known → Says
-says_of (Some seq) known = Gap seq
+says_of (Some place) known = Gap place
 says_of None known = says_without_gap known known.held
 
 abbrev pub says : List ReplicaTurn → Says

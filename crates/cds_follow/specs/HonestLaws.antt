@@ -11,7 +11,7 @@ use Rattle.cds_load.specs.declared.exchange.Ask.{Ask}
 use Rattle.cds_commands.specs.Commands.{Command, scans_of, oldest, AreAccepted}
 use Rattle.cds_commands.specs.Notes.{Note, alive_names, notes_of}
 use Rattle.cds_commands.specs.Releases.{released_to, releases_of}
-use Rattle.cds_follow.specs.Inbox.{ReplicaTurn, Begins, Shows, Requests, Accepts, Refuses, Delivers, accepted, received, has_seq, taken_by, IsTooMany, arrival}
+use Rattle.cds_follow.specs.Inbox.{ReplicaTurn, Begins, Shows, Requests, Accepts, Refuses, Delivers, accepted, received, has_place, taken_by, IsTooMany, arrival}
 use Rattle.cds_follow.specs.Follow.{Known, position, is_drop, known_by, next_ask, with_reply, with_notes, says, copied}
 use Rattle.cds_follow.specs.Given.{moment_after, Entry, Starts, Asks, Calls, Granted, Denied, Gets, length_at, given_by, IsGiven}
 use Rattle.cds_follow.specs.declared.says.Says.TheVariants.{Stands}
@@ -48,7 +48,7 @@ delivered_notes_are_received = (token : List ℕ) (first : ℕ) (commands : List
     AreAccepted first commands → IsGiven token first commands (newer ++ Gets k note ∷ older) →
     accepted (given_by token first commands (newer ++ Gets k note ∷ older)) ≡ Some note.name →
     ((held : ℕ) → arrival note (given_by token first commands older) ≡ IsTooMany held → ⊥) →
-    has_seq (received (given_by token first commands (newer ++ Gets k note ∷ older))) note.seq ≡ true
+    has_place (received (given_by token first commands (newer ++ Gets k note ∷ older))) note.place ≡ true
 
 -- whether a turn begins a load; and whether one of some turns did, or took a first note that drops the copy
 abbrev pub begins_load : ReplicaTurn → Bool
@@ -70,8 +70,8 @@ abbrev pub honest_answers_are_complete : Type 0
 honest_answers_are_complete = (token : List ℕ) (first : ℕ) (commands : List Command) (newest : Entry) (older : List Entry) (name now : ℕ) → AreAccepted first commands →
     IsGiven token first commands (newest ∷ older) → load_was_begun (given_by token first commands (newest ∷ older)) ≡ true →
     accepted (given_by token first commands (newest ∷ older)) ≡ Some name →
-    Contains (alive_names now commands (notes_of first commands)) name →
-    AllByRecursion (λ (note : Note). note.name ≡ name → has_seq (received (given_by token first commands (newest ∷ older))) note.seq ≡ true) (notes_of first commands) →
+    Contains (alive_names now commands) name →
+    AllByRecursion (λ (note : Note). note.name ≡ name → has_place (received (given_by token first commands (newest ∷ older))) note.place ≡ true) (notes_of first commands) →
     released_to first (releases_of first commands) ≡ end_of (scans_of first commands) →
     next_ask (known_by (given_by token first commands (newest ∷ older))) ≡ None →
     says (given_by token first commands (newest ∷ older)) ≡ Stands (end_of (scans_of first commands))

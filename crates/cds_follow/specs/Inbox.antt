@@ -1,4 +1,4 @@
--- Which notes a replica received, took and misses: sets of SEQs over its turns, with no copy in them (UPnP Device
+-- Which notes a replica received, took and misses: sets of places over its turns, with no copy in them (UPnP Device
 -- Architecture 2.0 on event keys; what is kept of notes that come early or out of order is this project's profile).
 use Rattle.std.specs.Prelude.{◌+◌, ◌&&◌, ℕ, zero, suc, Bool, true, false, cond, not, nat_eq, nat_lt, nat_le, List, [], ◌∷◌, ◌++◌, filter, length, Option, Some, None}
 use Rattle.std.specs.List.{list_any}
@@ -64,29 +64,29 @@ received (Accepts name ∷ older) = filter (λ (note : Note). nat_eq note.name n
 received (Refuses ∷ older) = received older
 received (Delivers note ∷ older) = cond (is_accepted note.name older) (note ∷ received older) (received older)
 
--- whether a SEQ is among those of notes
-abbrev pub has_seq : List Note → ℕ → Bool
-has_seq notes seq = list_any (λ (note : Note). nat_eq note.seq seq) notes
+-- whether a place is among those of notes
+abbrev pub has_place : List Note → ℕ → Bool
+has_place notes place = list_any (λ (note : Note). nat_eq note.place place) notes
 
--- the least SEQ from one on that is not among those of notes; among as many SEQs as there are notes, and one, there is one
+-- the least place from one on that is not among those of notes; among as many places as there are notes, and one, there is one
 abbrev pub least_outside : ℕ → ℕ → List Note → ℕ
-least_outside zero seq notes = seq
-least_outside (suc more) seq notes = cond (has_seq notes seq) (least_outside more (seq + 1) notes) seq
+least_outside zero place notes = place
+least_outside (suc more) place notes = cond (has_place notes place) (least_outside more (place + 1) notes) place
 
--- the SEQ after those that were taken: these are the longest run 0, 1, .. of those received
-abbrev pub next_seq : List ReplicaTurn → ℕ
-next_seq turns = least_outside (length (received turns)) 0 (received turns)
+-- the place after those that were taken: these are the longest run 0, 1, .. of those received
+abbrev pub next_place : List ReplicaTurn → ℕ
+next_place turns = least_outside (length (received turns)) 0 (received turns)
 
--- the least SEQ that is missing: it was not received, and a greater one was
+-- the least place that is missing: it was not received, and a greater one was
 abbrev pub missing_of : List Note → ℕ → Option ℕ
-missing_of notes next = cond (list_any (λ (note : Note). nat_lt next note.seq) notes) (Some next) None
+missing_of notes next = cond (list_any (λ (note : Note). nat_lt next note.place) notes) (Some next) None
 
 abbrev pub missing : List ReplicaTurn → Option ℕ
-missing turns = missing_of (received turns) (next_seq turns)
+missing turns = missing_of (received turns) (next_place turns)
 
--- notes without those whose name and SEQ an earlier one has; the newest is the first
+-- notes without those whose name and place an earlier one has; the newest is the first
 abbrev pub is_same_note : Note → Note → Bool
-is_same_note note other = nat_eq note.name other.name && nat_eq note.seq other.seq
+is_same_note note other = nat_eq note.name other.name && nat_eq note.place other.place
 
 abbrev pub different : List Note → List Note
 different [] = []
@@ -94,7 +94,7 @@ different (note ∷ older) = cond (list_any (is_same_note note) older) (differen
 
 -- the notes that are held: those received and not taken, and the early ones, each once
 abbrev pub waiting_notes : List ReplicaTurn → List Note
-waiting_notes turns = filter (λ (note : Note). nat_lt (next_seq turns) note.seq) (different (received turns))
+waiting_notes turns = filter (λ (note : Note). nat_lt (next_place turns) note.place) (different (received turns))
 
 abbrev pub held_notes : List ReplicaTurn → List Note
 held_notes turns = waiting_notes turns ++ different (early_notes turns)
@@ -103,20 +103,20 @@ held_notes turns = waiting_notes turns ++ different (early_notes turns)
 abbrev pub held_limit : ℕ
 held_limit = 64
 
--- the notes that a turn lets the replica take, in ascending order of SEQs: those that are taken after it and were not before.
+-- the notes that a turn lets the replica take, in ascending order of places: those that are taken after it and were not before.
 -- What was taken under another name is not counted
 abbrev pub taken_by : ReplicaTurn → List ReplicaTurn → List Note
 taken_by Begins older = []
 taken_by (Shows shown) older = []
 taken_by Requests older = []
-taken_by (Accepts name) older = notes_from_to 0 (next_seq (Accepts name ∷ older)) (received (Accepts name ∷ older))
+taken_by (Accepts name) older = notes_from_to 0 (next_place (Accepts name ∷ older)) (received (Accepts name ∷ older))
 taken_by Refuses older = []
 taken_by (Delivers note) older =
     cond (is_accepted note.name older)
-    (notes_from_to (next_seq older) (next_seq (Delivers note ∷ older)) (received (Delivers note ∷ older))) []
+    (notes_from_to (next_place older) (next_place (Delivers note ∷ older)) (received (Delivers note ∷ older))) []
 
 -- what becomes of a delivered note by the notes alone: its name is not known; it came before; no room is left to hold it; it is
--- held for the request that is out; it is held for a SEQ before it that is missing; or it is next, and to be taken
+-- held for the request that is out; it is held for a place before it that is missing; or it is next, and to be taken
 pub data Arrival : Type 0 where
   IsUnknown : Arrival
   IsRepeat : Arrival
@@ -125,15 +125,15 @@ pub data Arrival : Type 0 where
   IsHeld : ℕ → Arrival
   IsNext : Arrival
 
--- whether a note is a repeat: one of the accepted name with its SEQ was received, or an early one of its name and SEQ
+-- whether a note is a repeat: one of the accepted name at its place was received, or an early one of its name and place
 abbrev pub is_repeat : Note → List ReplicaTurn → Bool
 is_repeat note turns =
-    cond (is_accepted note.name turns) (has_seq (received turns) note.seq)
+    cond (is_accepted note.name turns) (has_place (received turns) note.place)
     (is_out turns && list_any (is_same_note note) (early_notes turns))
 
 -- whether a note is the next one of the accepted name
 abbrev pub is_next : Note → List ReplicaTurn → Bool
-is_next note turns = is_accepted note.name turns && nat_eq note.seq (next_seq turns)
+is_next note turns = is_accepted note.name turns && nat_eq note.place (next_place turns)
 
 abbrev pub arrival : Note → List ReplicaTurn → Arrival
 arrival note turns =
@@ -141,4 +141,4 @@ arrival note turns =
     (cond (is_repeat note turns) IsRepeat
     (cond (not (is_next note turns) && nat_le held_limit (length (held_notes turns))) (IsTooMany (length (held_notes turns)))
     (cond (not (is_accepted note.name turns)) IsEarly
-    (cond (nat_lt (next_seq turns) note.seq) (IsHeld (next_seq turns)) IsNext))))
+    (cond (nat_lt (next_place turns) note.place) (IsHeld (next_place turns)) IsNext))))

@@ -2,7 +2,7 @@
 use Rattle.std.specs.Prelude.{◌≡◌, ◌↔◌, ◌⊎◌, ◌<◌, ℕ, Bool, true, false, List, [], ◌∷◌, ◌++◌, map, Some, Contains}
 use Rattle.std.specs.List.{AllByRecursion, range_with_len}
 use Rattle.cds_commands.specs.Notes.{Note, notes_from_to}
-use Rattle.cds_follow.specs.Inbox.{ReplicaTurn, Begins, Shows, Requests, Accepts, Refuses, Delivers, is_accepted, is_early, received, has_seq, next_seq, missing, taken_by}
+use Rattle.cds_follow.specs.Inbox.{ReplicaTurn, Begins, Shows, Requests, Accepts, Refuses, Delivers, is_accepted, is_early, received, has_place, next_place, missing, taken_by}
 
 -- whether a turn accepts a name; and whether it is a subscribe request, or the reply to one
 abbrev pub accepts_name : ReplicaTurn → Bool
@@ -36,11 +36,11 @@ received_notes_came = (turns : List ReplicaTurn) (note : Note) →
     (Contains (received turns) note)
     ↔ ((newer : List ReplicaTurn) × (older : List ReplicaTurn) × (turns ≡ newer ++ Delivers note ∷ older) × CameFor note newer older)
 
--- the notes that were taken are the longest run of SEQs from 0 on that were received: all before the next one were, and the next
+-- the notes that were taken are the longest run of places from 0 on that were received: all before the next one were, and the next
 -- one was not
 abbrev pub the_longest_run_is_taken : Type 0
 the_longest_run_is_taken = (turns : List ReplicaTurn) →
-    ((seq : ℕ) → seq < next_seq turns → has_seq (received turns) seq ≡ true) × (has_seq (received turns) (next_seq turns) ≡ false)
+    ((place : ℕ) → place < next_place turns → has_place (received turns) place ≡ true) × (has_place (received turns) (next_place turns) ≡ false)
 
 -- the notes that were taken since the name was accepted last, in the order in which they were
 abbrev pub taken_since : List ReplicaTurn → List Note
@@ -52,17 +52,17 @@ taken_since (Accepts name ∷ older) = taken_by (Accepts name) older
 taken_since (Refuses ∷ older) = taken_since older
 taken_since (Delivers note ∷ older) = taken_since older ++ taken_by (Delivers note) older
 
--- each note of the longest run was taken once, in the order of SEQs, and as it was received first: position and copy go by
+-- each note of the longest run was taken once, in the order of places, and as it was received first: position and copy go by
 -- these notes alone
 abbrev pub each_note_is_taken_once : Type 0
 each_note_is_taken_once = (turns : List ReplicaTurn) →
-    (map (λ (note : Note). note.seq) (taken_since turns) ≡ range_with_len 0 (next_seq turns))
-    × (taken_since turns ≡ notes_from_to 0 (next_seq turns) (received turns))
+    (map (λ (note : Note). note.place) (taken_since turns) ≡ range_with_len 0 (next_place turns))
+    × (taken_since turns ≡ notes_from_to 0 (next_place turns) (received turns))
 
--- a SEQ is missing if and only if it is the least that was not received, and a greater one was
+-- a place is missing if and only if it is the least that was not received, and a greater one was
 abbrev pub the_least_is_missing : Type 0
 the_least_is_missing = (turns : List ReplicaTurn) (seq : ℕ) →
-    (missing turns ≡ Some seq → (has_seq (received turns) seq ≡ false) × ((less : ℕ) → less < seq → has_seq (received turns) less ≡ true)
-    × ((more : ℕ) × (seq < more) × (has_seq (received turns) more ≡ true)))
-    × (has_seq (received turns) seq ≡ false → ((less : ℕ) → less < seq → has_seq (received turns) less ≡ true) →
-    (more : ℕ) → seq < more → has_seq (received turns) more ≡ true → missing turns ≡ Some seq)
+    (missing turns ≡ Some seq → (has_place (received turns) seq ≡ false) × ((less : ℕ) → less < seq → has_place (received turns) less ≡ true)
+    × ((more : ℕ) × (seq < more) × (has_place (received turns) more ≡ true)))
+    × (has_place (received turns) seq ≡ false → ((less : ℕ) → less < seq → has_place (received turns) less ≡ true) →
+    (more : ℕ) → seq < more → has_place (received turns) more ≡ true → missing turns ≡ Some seq)

@@ -14,3 +14,4 @@ pub mod Seen
 pub mod ServerLaws
 pub mod StepLaws
 pub mod TrackerLaws
+pub mod Wire

@@ -57,3 +57,8 @@ pub fn changes_are_not_counted_again()
 pub fn premises_hold()
     ensures { examples.premises_hold }
 {}
+
+/// States what becomes of notes on the wire, and where their places are, if SEQs wrap after 256.
+pub fn notes_on_the_wire()
+    ensures { examples.notes_on_the_wire }
+{}

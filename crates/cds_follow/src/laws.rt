@@ -11,13 +11,14 @@ ghost use Rattle.cds_follow.specs.Seen as seen;
 ghost use Rattle.cds_follow.specs.ServerLaws as server;
 ghost use Rattle.cds_follow.specs.StepLaws as steps;
 ghost use Rattle.cds_follow.specs.TrackerLaws as trackers;
+ghost use Rattle.cds_follow.specs.Wire as wire;
 
-/// States that the notes that were taken are the longest run of SEQs from 0 on that were received.
+/// States that the notes that were taken are the longest run of places from 0 on that were received.
 pub fn the_longest_run_is_taken()
     ensures { inbox.the_longest_run_is_taken }
 {}
 
-/// States that a SEQ is missing if and only if it is the least that was not received, and a greater one was.
+/// States that a place is missing if and only if it is the least that was not received, and a greater one was.
 pub fn the_least_is_missing()
     ensures { inbox.the_least_is_missing }
 {}
@@ -113,7 +114,7 @@ pub fn copied_rows_were_shown()
     ensures { seen.copied_rows_were_shown }
 {}
 
-/// States that each note of the longest run was taken once, in the order of SEQs, and as it was received first.
+/// States that each note of the longest run was taken once, in the order of places, and as it was received first.
 pub fn each_note_is_taken_once()
     ensures { inbox.each_note_is_taken_once }
 {}
@@ -161,4 +162,14 @@ pub fn loads_go_by_replies()
 /// States that what a replica knows, says and refuses is the same under any names that tell subscriptions apart.
 pub fn names_do_not_matter()
     ensures { named.names_do_not_matter }
+{}
+
+/// States that a note that comes within reach of the next place is given its own place.
+pub fn near_notes_are_placed()
+    ensures { wire.near_notes_are_placed }
+{}
+
+/// States that a note that is fewer places away than a wrap without a reach is given its own place, or is unknown and refused.
+pub fn notes_are_placed_or_unknown()
+    ensures { wire.notes_are_placed_or_unknown }
 {}

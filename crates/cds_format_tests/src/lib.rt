@@ -27,3 +27,5 @@ mod system_tests;
 mod turn_tests;
 #[cfg(test)]
 mod words_tests;
+#[cfg(test)]
+mod wrap_tests;

@@ -1,5 +1,5 @@
 -- What one command does to the subscriptions that a book keeps, and which of them live.
-use Rattle.std.proofs.Common.{◌≡◌, ◌≢◌, ◌⊎◌, inl, inr, ◌+◌, ◌<◌, ◌≤◌, ℕ, zero, suc, Bool, true, false, cond, not, ◌&&◌, nat_eq, nat_lt, List, [], ◌∷◌, ◌++◌, map, filter, length, Option, Some, None, unwrap_or, is_some, IsSome, refl, sym, ap, ◌∙◌, arith, true≢false, eq-eqb, eqb-true, ne_eqb, ltb-true, ltb-false, lt-ltb}
+use Rattle.std.proofs.Common.{◌≡◌, ◌≢◌, ◌⊎◌, inl, inr, ◌+◌, ◌%◌, ◌<◌, ◌≤◌, ℕ, zero, suc, Bool, true, false, cond, not, ◌&&◌, nat_eq, nat_lt, List, [], ◌∷◌, ◌++◌, map, filter, length, Option, Some, None, unwrap_or, is_some, IsSome, refl, sym, ap, ◌∙◌, arith, true≢false, eq-eqb, eqb-true, ne_eqb, ltb-true, ltb-false, lt-ltb}
 use Rattle.std.specs.List.{AllByRecursion, filter_map, cons_option, range_with_len}
 use Rattle.std.proofs.lemmas.Bool.{cases_lt}
 use Rattle.std.proofs.lemmas.List.{append-nil}
@@ -9,15 +9,17 @@ use Rattle.cds_catalog.specs.History.{end_of}
 use Rattle.cds_catalog.proofs.StepsFind.{each-filter, none≢some}
 use Rattle.std.specs.Map.{lookup}
 use Rattle.cds_changes.proofs.Numbers.{range-more}
-use Rattle.cds_commands.specs.Commands.{Command, Scans, Grants, Renews, Ends, Ticks, Stops, scans_of}
+use Rattle.cds_commands.specs.Commands.{Command, Start, Scans, Grants, Renews, Ends, Ticks, Stops, scans_of}
 use Rattle.cds_commands.specs.Releases.{Release, release_at, releases_of}
 use Rattle.cds_commands.specs.Subscriptions.{granted, end_after, renewed_until, unless_past, runs_until, is_alive, callback_of}
-use Rattle.cds_commands.specs.Notes.{Note, next_seq_of, seq_limit, alive_names, released_note, released_notes, first_note, sent_by, notes_of}
+use Rattle.cds_commands.specs.Places.{seq_at, seq_after}
+use Rattle.cds_commands.proofs.After.{nothing, after}
+use Rattle.cds_commands.specs.Notes.{Note, next_place_of, alive_names, released_note, released_notes, first_note, sent_by, notes_of}
 use Rattle.cds_commands.proofs.Among.{Among, among-all, row-among, seq-append, seq-none}
 use Rattle.cds_commands.proofs.Sent.{Sound, all-sound}
 use Rattle.cds_gena.specs.declared.book.Subscription.{Subscription}
 use Rattle.cds_gena.specs.SubscribedLaws.{sent_under, next_under}
-use Rattle.cds_gena.specs.Subscribed.{running, subscription_of, subscribed_by, alive, with_grant, until, renewed, without, expired, has_next, raised, notified, is_running, holds_alive}
+use Rattle.cds_gena.specs.Subscribed.{running, subscription_of, subscribed_by, alive, with_grant, until, renewed, without, expired, raised, notified, is_running, holds_alive}
 
 abbrev Entry : Type 0
 Entry = ℕ × Subscription
@@ -69,133 +71,94 @@ passing p (x ∷ xs) = by (p x) (passing p xs)
     by true r = ap (λ l. x ∷ l) r
     by false r = r
 
--- ---- a subscription by its SEQ and its end
+-- ---- a subscription by the place of its next note and its end
 
-module _ (name : ℕ) (callback : List ℕ) (seq : ℕ) where
+module _ (wrap name : ℕ) (callback : List ℕ) (place : ℕ) where
   abbrev here : ℕ → Entry
-  here end = (name, record { callback = callback; end = end; next_seq = seq })
+  here end = (name, record { callback = callback; end = end; next_seq = seq_at wrap place })
 
   -- whether it lives at a moment is seen from either
   lives : (now : ℕ) (o : Option ℕ) →
-      cond (is_some (unless_past now o) && nat_lt seq seq_limit) (Some name) None
-      ≡ mapped (λ (p : Entry). p.0) (kept (λ (p : Entry). nat_lt now p.1.end) (running name callback seq o))
+      cond (is_some (unless_past now o)) (Some name) None
+      ≡ mapped (λ (p : Entry). p.0) (kept (λ (p : Entry). nat_lt now p.1.end) (running wrap name callback place o))
   lives now None = refl
-  lives now (Some end) = by (nat_lt now end) (nat_lt seq seq_limit) refl
+  lives now (Some end) = by (nat_lt now end)
     where
-      by : (b d : Bool) → nat_lt now end ≡ b → cond (is_some (cond b (Some end) None) && d) (Some name) None
-          ≡ mapped (λ (p : Entry). p.0) (kept (λ (p : Entry). nat_lt now p.1.end) (cond d (Some (here end)) None))
-      by true true e = λ i. mapped (λ (p : Entry). p.0) (cond (sym e i) (Some (here end)) None)
-      by true false e = refl
-      by false true e = λ i. mapped (λ (p : Entry). p.0) (cond (sym e i) (Some (here end)) None)
-      by false false e = refl
+      by : (b : Bool) → cond (is_some (cond b (Some end) None)) (Some name) None ≡ mapped (λ (p : Entry). p.0) (cond b (Some (here end)) None)
+      by true = refl
+      by false = refl
 
-  past : (now : ℕ) (o : Option ℕ) → running name callback seq (unless_past now o) ≡ kept (λ (p : Entry). nat_lt now p.1.end) (running name callback seq o)
+  past : (now : ℕ) (o : Option ℕ) → running wrap name callback place (unless_past now o) ≡ kept (λ (p : Entry). nat_lt now p.1.end) (running wrap name callback place o)
   past now None = refl
-  past now (Some end) = by (nat_lt now end) (nat_lt seq seq_limit) refl refl
+  past now (Some end) = by (nat_lt now end)
     where
-      by : (b d : Bool) → nat_lt now end ≡ b → nat_lt seq seq_limit ≡ d
-          → running name callback seq (cond b (Some end) None) ≡ kept (λ (p : Entry). nat_lt now p.1.end) (cond d (Some (here end)) None)
-      by true true e f = (λ i. cond (f i) (Some (here end)) None) ∙ (λ i. cond (sym e i) (Some (here end)) None)
-      by true false e f = λ i. cond (f i) (Some (here end)) None
-      by false true e f = λ i. cond (sym e i) (Some (here end)) None
-      by false false e f = refl
+      by : (b : Bool) → running wrap name callback place (cond b (Some end) None) ≡ cond b (Some (here end)) None
+      by true = refl
+      by false = refl
 
   -- given up
   gone : (other : ℕ) (o : Option ℕ) →
-      running name callback seq (cond (nat_eq name other) None o) ≡ kept (λ (p : Entry). not (nat_eq p.0 other)) (running name callback seq o)
+      running wrap name callback place (cond (nat_eq name other) None o) ≡ kept (λ (p : Entry). not (nat_eq p.0 other)) (running wrap name callback place o)
   gone other None = by (nat_eq name other)
     where
-      by : (b : Bool) → running name callback seq (cond b None None) ≡ None
+      by : (b : Bool) → running wrap name callback place (cond b None None) ≡ None
       by true = refl
       by false = refl
-  gone other (Some end) = by (nat_eq name other) (nat_lt seq seq_limit) refl refl
+  gone other (Some end) = by (nat_eq name other)
     where
-      by : (b d : Bool) → nat_eq name other ≡ b → nat_lt seq seq_limit ≡ d
-          → running name callback seq (cond b None (Some end)) ≡ kept (λ (p : Entry). not (nat_eq p.0 other)) (cond d (Some (here end)) None)
-      by true true e f = λ i. cond (not (sym e i)) (Some (here end)) None
-      by true false e f = refl
-      by false true e f = (λ i. cond (f i) (Some (here end)) None) ∙ (λ i. cond (not (sym e i)) (Some (here end)) None)
-      by false false e f = λ i. cond (f i) (Some (here end)) None
+      by : (b : Bool) → running wrap name callback place (cond b None (Some end)) ≡ cond (not b) (Some (here end)) None
+      by true = refl
+      by false = refl
 
   -- renewed
   put-off : (other end : ℕ) (o : Option ℕ) →
-      running name callback seq (cond (nat_eq name other) (renewed_until end o) o) ≡ mapped (until other end) (running name callback seq o)
+      running wrap name callback place (cond (nat_eq name other) (renewed_until end o) o) ≡ mapped (until other end) (running wrap name callback place o)
   put-off other end None = by (nat_eq name other)
     where
-      by : (b : Bool) → running name callback seq (cond b None None) ≡ None
+      by : (b : Bool) → running wrap name callback place (cond b None None) ≡ None
       by true = refl
       by false = refl
-  put-off other end (Some before) = by (nat_eq name other) (nat_lt seq seq_limit) refl refl
+  put-off other end (Some before) = by (nat_eq name other)
     where
-      by : (b d : Bool) → nat_eq name other ≡ b → nat_lt seq seq_limit ≡ d
-          → running name callback seq (cond b (Some end) (Some before)) ≡ mapped (until other end) (cond d (Some (here before)) None)
-      by true true e f = (λ i. cond (f i) (Some (here end)) None) ∙ (λ i. Some (cond (sym e i) (here end) (here before)))
-      by true false e f = λ i. cond (f i) (Some (here end)) None
-      by false true e f = (λ i. cond (f i) (Some (here before)) None) ∙ (λ i. Some (cond (sym e i) (here end) (here before)))
-      by false false e f = λ i. cond (f i) (Some (here before)) None
+      by : (b : Bool) → running wrap name callback place (cond b (Some end) (Some before)) ≡ Some (cond b (here end) (here before))
+      by true = refl
+      by false = refl
 
--- the last SEQ is the one below the limit
-last-seq : (seq : ℕ) → nat_lt (seq + 1) seq_limit ≡ nat_lt seq 4294967295
-last-seq seq = by (nat_lt (seq + 1) seq_limit) (nat_lt seq 4294967295) refl refl
-  where
-    by : (b d : Bool) → nat_lt (seq + 1) seq_limit ≡ b → nat_lt seq 4294967295 ≡ d → b ≡ d
-    by true true e f = refl
-    by false false e f = refl
-    by true false e f =
-        let low = ltb-true (seq + 1) seq_limit e in
-        let high = ltb-false seq 4294967295 f in
-        let no : ⊥ = omega (arith, low, high) in
-        absurd no
-    by false true e f =
-        let low = ltb-true seq 4294967295 f in
-        let no : ⊥ = absurd (true≢false (sym (lt-ltb (seq + 1) seq_limit (omega (arith, low))) ∙ e)) in
-        absurd no
-
--- one more note
-told : (now name : ℕ) (callback : List ℕ) (seq : ℕ) (o : Option ℕ) →
-    running name callback (seq + cond (is_some (unless_past now o) && nat_lt seq seq_limit) 1 0) (unless_past now o)
-    ≡ mapped raised (kept has_next (kept (λ (p : Entry). nat_lt now p.1.end) (running name callback seq o)))
-told now name callback seq None = refl
-told now name callback seq (Some end) = by (nat_lt now end) (nat_lt seq seq_limit) refl refl
+-- one more note, if it lives
+told : (wrap now name : ℕ) (callback : List ℕ) (place : ℕ) (o : Option ℕ) → 0 < wrap →
+    running wrap name callback (place + cond (is_some (unless_past now o)) 1 0) (unless_past now o)
+    ≡ mapped (raised wrap) (kept (λ (p : Entry). nat_lt now p.1.end) (running wrap name callback place o))
+told wrap now name callback place None some = refl
+told wrap now name callback place (Some end) some = by (nat_lt now end)
   where
     this : Entry
-    this = (name, record { callback = callback; end = end; next_seq = seq })
+    this = (name, record { callback = callback; end = end; next_seq = seq_at wrap place })
 
-    on : (b : Bool) → cond b (Some (raised this)) None ≡ mapped raised (cond b (Some this) None)
-    on true = refl
-    on false = refl
+    more : seq_at wrap (place + 1) ≡ seq_after wrap (seq_at wrap place)
+    more = let e : place + 1 ≡ suc place = omega arith in ap (seq_at wrap) e ∙ after wrap place some
 
-    by : (b d : Bool) → nat_lt now end ≡ b → nat_lt seq seq_limit ≡ d
-        → running name callback (seq + cond (is_some (cond b (Some end) None) && d) 1 0) (cond b (Some end) None)
-        ≡ mapped raised (kept has_next (kept (λ (p : Entry). nat_lt now p.1.end) (cond d (Some this) None)))
-    by true true e f =
-        (λ i. cond (last-seq seq i) (Some (raised this)) None)
-        ∙ on (nat_lt seq 4294967295)
-        ∙ (λ i. mapped raised (kept has_next (cond (sym e i) (Some this) None)))
-    by true false e f =
-        let same : seq + 0 ≡ seq = omega arith in
-        ap (λ (n : ℕ). running name callback n (Some end)) same ∙ (λ i. cond (f i) (Some this) None)
-    by false true e f = λ i. mapped raised (kept has_next (cond (sym e i) (Some this) None))
-    by false false e f = refl
+    by : (b : Bool) → running wrap name callback (place + cond (is_some (cond b (Some end) None)) 1 0) (cond b (Some end) None) ≡ mapped (raised wrap) (cond b (Some this) None)
+    by true = ap (λ (n : ℕ). Some (name, record { callback = callback; end = end; next_seq = n })) more
+    by false = refl
 
 -- ---- how many notes of a name a release sends
 
 module _ (f : ℕ → Note) (named : (n : ℕ) → (f n).name ≡ n) (p : ℕ → Bool) where
-  none-below : (a n name : ℕ) → name < a → next_seq_of name (map f (filter p (range_with_len a n))) ≡ 0
+  none-below : (a n name : ℕ) → name < a → next_place_of name (map f (filter p (range_with_len a n))) ≡ 0
   none-below a zero name l = refl
   none-below a (suc n) name l = by (p a) (none-below (a + 1) n name (omega (arith, l)))
     where
       others : List Note
       others = map f (filter p (range_with_len (a + 1) n))
 
-      by : (b : Bool) → next_seq_of name others ≡ 0
-          → next_seq_of name (map f (cond b (a ∷ filter p (range_with_len (a + 1) n)) (filter p (range_with_len (a + 1) n)))) ≡ 0
+      by : (b : Bool) → next_place_of name others ≡ 0
+          → next_place_of name (map f (cond b (a ∷ filter p (range_with_len (a + 1) n)) (filter p (range_with_len (a + 1) n)))) ≡ 0
       by true r =
           let is = named a in
           (λ i. length (cond (ne_eqb (f a).name name (λ e. omega (arith, e, is, l)) i) (f a ∷ filter (λ (x : Note). nat_eq x.name name) others) (filter (λ (x : Note). nat_eq x.name name) others))) ∙ r
       by false r = r
 
-  counted : (a n name : ℕ) → a ≤ name → name < a + n → next_seq_of name (map f (filter p (range_with_len a n))) ≡ cond (p name) 1 0
+  counted : (a n name : ℕ) → a ≤ name → name < a + n → next_place_of name (map f (filter p (range_with_len a n))) ≡ cond (p name) 1 0
   counted a zero name l h = let no : ⊥ = omega (arith, l, h) in absurd no
   counted a (suc n) name l h = by (cases_lt a name) (λ m. counted (a + 1) n name m (omega (arith, h)))
     where
@@ -205,22 +168,22 @@ module _ (f : ℕ → Note) (named : (n : ℕ) → (f n).name ≡ n) (p : ℕ �
       all : Bool → List Note
       all b = map f (cond b (a ∷ filter p (range_with_len (a + 1) n)) (filter p (range_with_len (a + 1) n)))
 
-      later : (b : Bool) → a < name → next_seq_of name others ≡ cond (p name) 1 0 → next_seq_of name (all b) ≡ cond (p name) 1 0
+      later : (b : Bool) → a < name → next_place_of name others ≡ cond (p name) 1 0 → next_place_of name (all b) ≡ cond (p name) 1 0
       later true m r =
           let is = named a in
           (λ i. length (cond (ne_eqb (f a).name name (λ e. omega (arith, e, is, m)) i) (f a ∷ filter (λ (x : Note). nat_eq x.name name) others) (filter (λ (x : Note). nat_eq x.name name) others))) ∙ r
       later false m r = r
 
-      here : (b : Bool) → a ≡ name → next_seq_of name others ≡ 0 → next_seq_of name (all b) ≡ cond b 1 0
+      here : (b : Bool) → a ≡ name → next_place_of name others ≡ 0 → next_place_of name (all b) ≡ cond b 1 0
       here true e r =
           (λ i. length (cond (eq-eqb (f a).name name (named a ∙ e) i) (f a ∷ filter (λ (x : Note). nat_eq x.name name) others) (filter (λ (x : Note). nat_eq x.name name) others)))
           ∙ one-more r
         where
-          one-more : next_seq_of name others ≡ 0 → suc (next_seq_of name others) ≡ 1
+          one-more : next_place_of name others ≡ 0 → suc (next_place_of name others) ≡ 1
           one-more z = omega (arith, z)
       here false e r = r
 
-      by : (a < name) ⊎ (name ≤ a) → (a + 1 ≤ name → next_seq_of name others ≡ cond (p name) 1 0) → next_seq_of name (all (p a)) ≡ cond (p name) 1 0
+      by : (a < name) ⊎ (name ≤ a) → (a + 1 ≤ name → next_place_of name others ≡ cond (p name) 1 0) → next_place_of name (all (p a)) ≡ cond (p name) 1 0
       by (inl m) r = later (p a) m (r (omega (arith, m)))
       by (inr m) r =
           let e : a ≡ name = omega (arith, l, m) in
@@ -228,146 +191,146 @@ module _ (f : ℕ → Note) (named : (n : ℕ) → (f n).name ≡ n) (p : ℕ �
 
 -- ---- one command
 
-module _ (first : ℕ) (older : List Command) where
+module _ (start : Start) (older : List Command) where
   abbrev names : List ℕ
   names = range_with_len 1 (granted older)
 
   abbrev seq_of : ℕ → ℕ
-  seq_of name = next_seq_of name (notes_of first older)
+  seq_of name = next_place_of name (notes_of start.first older)
 
   abbrev at : ℕ → List ℕ
   at name = unwrap_or (callback_of name older) []
 
   -- no note was sent to a name that was not granted yet
-  none-yet : next_seq_of (granted older + 1) (notes_of first older) ≡ 0
+  none-yet : next_place_of (granted older + 1) (notes_of start.first older) ≡ 0
   none-yet =
-      seq-none (granted older + 1) (notes_of first older)
-      (λ note a e. let known = (among-all (Sound first older) (notes_of first older) note (all-sound first older) a).known in omega (arith, known, e))
+      seq-none (granted older + 1) (notes_of start.first older)
+      (λ note a e. let known = (among-all (Sound start.first older) (notes_of start.first older) note (all-sound start.first older) a).known in omega (arith, known, e))
 
-  silent-same : (command : Command) → sent_by first older (notes_of first older) command ≡ [] → notes_of first (command ∷ older) ≡ notes_of first older
-  silent-same command e = ap (λ (l : List Note). notes_of first older ++ l) e ∙ append-nil (notes_of first older)
+  silent-same : (command : Command) → sent_by start.first older (notes_of start.first older) command ≡ [] → notes_of start.first (command ∷ older) ≡ notes_of start.first older
+  silent-same command e = ap (λ (l : List Note). notes_of start.first older ++ l) e ∙ append-nil (notes_of start.first older)
 
-  pub booked-scan : (library : FolderMap) → subscribed_by first (Scans library ∷ older) ≡ subscribed_by first older
+  pub booked-scan : (library : FolderMap) → subscribed_by start (Scans library ∷ older) ≡ subscribed_by start older
   booked-scan library = λ i. record {
     granted = granted older;
-    living = filter_map (λ name. running name (at name) (next_seq_of name (silent-same (Scans library) refl i)) (runs_until name older)) names;
+    living = filter_map (λ name. running start.wrap name (at name) (next_place_of name (silent-same (Scans library) refl i)) (runs_until name older)) names;
   }
 
-  pub booked-stop : subscribed_by first (Stops ∷ older) ≡ subscribed_by first older
+  pub booked-stop : subscribed_by start (Stops ∷ older) ≡ subscribed_by start older
   booked-stop = λ i. record {
     granted = granted older;
-    living = filter_map (λ name. running name (at name) (next_seq_of name (silent-same Stops refl i)) (runs_until name older)) names;
+    living = filter_map (λ name. running start.wrap name (at name) (next_place_of name (silent-same Stops refl i)) (runs_until name older)) names;
   }
 
-  pub booked-end : (moment other : ℕ) → subscribed_by first (Ends moment other ∷ older) ≡ without other (subscribed_by first older)
+  pub booked-end : (moment other : ℕ) → subscribed_by start (Ends moment other ∷ older) ≡ without other (subscribed_by start older)
   booked-end moment other = ap (λ (l : List Entry). record { granted = granted older; living = l })
-      (agree (subscription_of first (Ends moment other ∷ older)) (λ name. kept (λ (p : Entry). not (nat_eq p.0 other)) (subscription_of first older name)) names
+      (agree (subscription_of start (Ends moment other ∷ older)) (λ name. kept (λ (p : Entry). not (nat_eq p.0 other)) (subscription_of start older name)) names
       (λ name a.
-      (λ i. running name (at name) (next_seq_of name (silent-same (Ends moment other) refl i)) (runs_until name (Ends moment other ∷ older)))
-      ∙ gone name (at name) (seq_of name) other (runs_until name older))
-      ∙ sym (filter-given (λ (p : Entry). not (nat_eq p.0 other)) (subscription_of first older) names))
+      (λ i. running start.wrap name (at name) (next_place_of name (silent-same (Ends moment other) refl i)) (runs_until name (Ends moment other ∷ older)))
+      ∙ gone start.wrap name (at name) (seq_of name) other (runs_until name older))
+      ∙ sym (filter-given (λ (p : Entry). not (nat_eq p.0 other)) (subscription_of start older) names))
 
-  pub booked-renewal : (moment other seconds : ℕ) → subscribed_by first (Renews moment other seconds ∷ older) ≡ renewed other (end_after moment seconds) (subscribed_by first older)
+  pub booked-renewal : (moment other seconds : ℕ) → subscribed_by start (Renews moment other seconds ∷ older) ≡ renewed other (end_after moment seconds) (subscribed_by start older)
   booked-renewal moment other seconds = ap (λ (l : List Entry). record { granted = granted older; living = l })
-      (agree (subscription_of first (Renews moment other seconds ∷ older)) (λ name. mapped (until other (end_after moment seconds)) (subscription_of first older name)) names
+      (agree (subscription_of start (Renews moment other seconds ∷ older)) (λ name. mapped (until other (end_after moment seconds)) (subscription_of start older name)) names
       (λ name a.
-      (λ i. running name (at name) (next_seq_of name (silent-same (Renews moment other seconds) refl i)) (runs_until name (Renews moment other seconds ∷ older)))
-      ∙ put-off name (at name) (seq_of name) other (end_after moment seconds) (runs_until name older))
-      ∙ sym (map-given (until other (end_after moment seconds)) (subscription_of first older) names))
+      (λ i. running start.wrap name (at name) (next_place_of name (silent-same (Renews moment other seconds) refl i)) (runs_until name (Renews moment other seconds ∷ older)))
+      ∙ put-off start.wrap name (at name) (seq_of name) other (end_after moment seconds) (runs_until name older))
+      ∙ sym (map-given (until other (end_after moment seconds)) (subscription_of start older) names))
 
-  pub booked-silent : (now : ℕ) → release_at now (scans_of first older) (releases_of first older) ≡ None → subscribed_by first (Ticks now ∷ older) ≡ expired now (subscribed_by first older)
+  pub booked-silent : (now : ℕ) → release_at now (scans_of start.first older) (releases_of start.first older) ≡ None → subscribed_by start (Ticks now ∷ older) ≡ expired now (subscribed_by start older)
   booked-silent now e = ap (λ (l : List Entry). record { granted = granted older; living = l })
-      (agree (subscription_of first (Ticks now ∷ older)) (λ name. kept (λ (p : Entry). nat_lt now p.1.end) (subscription_of first older name)) names
+      (agree (subscription_of start (Ticks now ∷ older)) (λ name. kept (λ (p : Entry). nat_lt now p.1.end) (subscription_of start older name)) names
       (λ name a.
-      (λ i. running name (at name) (next_seq_of name (silent-same (Ticks now) none i)) (unless_past now (runs_until name older)))
-      ∙ past name (at name) (seq_of name) now (runs_until name older))
-      ∙ sym (filter-given (λ (p : Entry). nat_lt now p.1.end) (subscription_of first older) names))
+      (λ i. running start.wrap name (at name) (next_place_of name (silent-same (Ticks now) none i)) (unless_past now (runs_until name older)))
+      ∙ past start.wrap name (at name) (seq_of name) now (runs_until name older))
+      ∙ sym (filter-given (λ (p : Entry). nat_lt now p.1.end) (subscription_of start older) names))
     where
-      none : sent_by first older (notes_of first older) (Ticks now) ≡ []
-      none = ap (λ (o : Option Release). released_notes (scans_of first older) o (notes_of first older) (alive_names now older (notes_of first older))) e
+      none : sent_by start.first older (notes_of start.first older) (Ticks now) ≡ []
+      none = ap (λ (o : Option Release). released_notes (scans_of start.first older) o (notes_of start.first older) (alive_names now older)) e
 
-  pub booked-release : (now : ℕ) (release : Release) → release_at now (scans_of first older) (releases_of first older) ≡ Some release →
-      subscribed_by first (Ticks now ∷ older) ≡ notified (expired now (subscribed_by first older))
-  booked-release now release e = ap (λ (l : List Entry). record { granted = granted older; living = l })
-      (agree (subscription_of first (Ticks now ∷ older)) (λ name. mapped raised (kept has_next (kept (λ (p : Entry). nat_lt now p.1.end) (subscription_of first older name)))) names one
-      ∙ sym (map-given raised (λ name. kept has_next (kept (λ (p : Entry). nat_lt now p.1.end) (subscription_of first older name))) names)
-      ∙ ap (map raised) (sym (filter-given has_next (λ name. kept (λ (p : Entry). nat_lt now p.1.end) (subscription_of first older name)) names))
-      ∙ ap (λ (l : List Entry). map raised (filter has_next l)) (sym (filter-given (λ (p : Entry). nat_lt now p.1.end) (subscription_of first older) names)))
+  pub booked-release : (now : ℕ) (release : Release) → 0 < start.wrap → release_at now (scans_of start.first older) (releases_of start.first older) ≡ Some release →
+      subscribed_by start (Ticks now ∷ older) ≡ notified start.wrap (expired now (subscribed_by start older))
+  booked-release now release some e = ap (λ (l : List Entry). record { granted = granted older; living = l })
+      (agree (subscription_of start (Ticks now ∷ older)) (λ name. mapped (raised start.wrap) (kept (λ (p : Entry). nat_lt now p.1.end) (subscription_of start older name))) names one
+      ∙ sym (map-given (raised start.wrap) (λ name. kept (λ (p : Entry). nat_lt now p.1.end) (subscription_of start older name)) names)
+      ∙ ap (map (raised start.wrap)) (sym (filter-given (λ (p : Entry). nat_lt now p.1.end) (subscription_of start older) names)))
     where
       passes : ℕ → Bool
-      passes name = is_alive name now older && nat_lt (seq_of name) seq_limit
+      passes name = is_alive name now older
 
-      count : (name : ℕ) → Among name names → next_seq_of name (sent_by first older (notes_of first older) (Ticks now)) ≡ cond (passes name) 1 0
+      count : (name : ℕ) → Among name names → next_place_of name (sent_by start.first older (notes_of start.first older) (Ticks now)) ≡ cond (passes name) 1 0
       count name a =
           let row = row-among 1 (granted older) name a in
-          ap (λ (o : Option Release). next_seq_of name (released_notes (scans_of first older) o (notes_of first older) (alive_names now older (notes_of first older)))) e
-          ∙ counted (released_note (scans_of first older) release (notes_of first older)) (λ n. refl) passes 1 (granted older) name row.0 row.1
+          ap (λ (o : Option Release). next_place_of name (released_notes (scans_of start.first older) o (notes_of start.first older) (alive_names now older))) e
+          ∙ counted (released_note (scans_of start.first older) release (notes_of start.first older)) (λ n. refl) passes 1 (granted older) name row.0 row.1
 
-      one : (name : ℕ) → Among name names → subscription_of first (Ticks now ∷ older) name
-          ≡ mapped raised (kept has_next (kept (λ (p : Entry). nat_lt now p.1.end) (subscription_of first older name)))
+      one : (name : ℕ) → Among name names → subscription_of start (Ticks now ∷ older) name
+          ≡ mapped (raised start.wrap) (kept (λ (p : Entry). nat_lt now p.1.end) (subscription_of start older name))
       one name a =
-          ap (λ (n : ℕ). running name (at name) n (unless_past now (runs_until name older)))
-          (seq-append name (notes_of first older) (sent_by first older (notes_of first older) (Ticks now))
+          ap (λ (n : ℕ). running start.wrap name (at name) n (unless_past now (runs_until name older)))
+          (seq-append name (notes_of start.first older) (sent_by start.first older (notes_of start.first older) (Ticks now))
           ∙ ap (λ (n : ℕ). seq_of name + n) (count name a))
-          ∙ told now name (at name) (seq_of name) (runs_until name older)
+          ∙ told start.wrap now name (at name) (seq_of name) (runs_until name older) some
 
-  pub booked-grant : (now : ℕ) (callback : List ℕ) (seconds : ℕ) → subscribed_by first (Grants now callback seconds ∷ older) ≡ with_grant now callback seconds (subscribed_by first older)
-  booked-grant now callback seconds =
+  pub booked-grant : (now : ℕ) (callback : List ℕ) (seconds : ℕ) → 0 < start.wrap → subscribed_by start (Grants now callback seconds ∷ older) ≡ with_grant now callback seconds (subscribed_by start older)
+  booked-grant now callback seconds some =
       let more : granted older + 1 ≡ suc (granted older) = omega arith in
       let next : 1 + granted older ≡ granted older + 1 = omega arith in
       ap (λ (l : List Entry). record { granted = granted older + 1; living = l })
-      (ap (λ (n : ℕ). filter_map (subscription_of first newer) (range_with_len 1 n)) more
-      ∙ ap (filter_map (subscription_of first newer)) (range-more 1 (granted older))
-      ∙ filter_map-append (subscription_of first newer) names ((1 + granted older) ∷ [])
-      ∙ ap (λ (n : ℕ). filter_map (subscription_of first newer) names ++ cons_option (subscription_of first newer n) []) next
-      ∙ (λ i. agree (subscription_of first newer) (subscription_of first older) names others i ++ cons_option (new i) []))
+      (ap (λ (n : ℕ). filter_map (subscription_of start newer) (range_with_len 1 n)) more
+      ∙ ap (filter_map (subscription_of start newer)) (range-more 1 (granted older))
+      ∙ filter_map-append (subscription_of start newer) names ((1 + granted older) ∷ [])
+      ∙ ap (λ (n : ℕ). filter_map (subscription_of start newer) names ++ cons_option (subscription_of start newer n) []) next
+      ∙ (λ i. agree (subscription_of start newer) (subscription_of start older) names others i ++ cons_option (new i) []))
     where
       newer : List Command
       newer = Grants now callback seconds ∷ older
 
       note : Note
-      note = first_note (granted older + 1) (end_of (scans_of first older))
+      note = first_note (granted older + 1) (end_of (scans_of start.first older))
 
-      others : (name : ℕ) → Among name names → subscription_of first newer name ≡ subscription_of first older name
+      others : (name : ℕ) → Among name names → subscription_of start newer name ≡ subscription_of start older name
       others name a =
           let row = row-among 1 (granted older) name a in
           let high = row.1 in
           let apart : name ≡ granted older + 1 → ⊥ = λ e. omega (arith, high, e) in
           let back : granted older + 1 ≡ name → ⊥ = λ e. omega (arith, high, e) in
-          let none : next_seq_of name (note ∷ []) ≡ 0 = (λ i. length (cond (ne_eqb (granted older + 1) name back i) (note ∷ []) [])) in
-          let more = seq-append name (notes_of first older) (note ∷ []) in
-          let same : next_seq_of name (notes_of first newer) ≡ next_seq_of name (notes_of first older) = omega (arith, more, none) in
+          let none : next_place_of name (note ∷ []) ≡ 0 = (λ i. length (cond (ne_eqb (granted older + 1) name back i) (note ∷ []) [])) in
+          let more = seq-append name (notes_of start.first older) (note ∷ []) in
+          let same : next_place_of name (notes_of start.first newer) ≡ next_place_of name (notes_of start.first older) = omega (arith, more, none) in
           let other = ne_eqb name (granted older + 1) apart in
-          (λ i. running name (unwrap_or (cond (other i) (Some callback) (callback_of name older)) []) (same i) (cond (other i) (Some (end_after now seconds)) (runs_until name older)))
+          (λ i. running start.wrap name (unwrap_or (cond (other i) (Some callback) (callback_of name older)) []) (same i) (cond (other i) (Some (end_after now seconds)) (runs_until name older)))
 
-      new : subscription_of first newer (granted older + 1) ≡ Some (granted older + 1, record { callback = callback; end = end_after now seconds; next_seq = 1 })
+      new : subscription_of start newer (granted older + 1) ≡ Some (granted older + 1, record { callback = callback; end = end_after now seconds; next_seq = 1 })
       new =
           let none = none-yet in
           let this = eq-eqb (granted older + 1) (granted older + 1) refl in
-          let one : next_seq_of (granted older + 1) (note ∷ []) ≡ 1 = (λ i. length (cond (this i) (note ∷ []) [])) in
-          let more = seq-append (granted older + 1) (notes_of first older) (note ∷ []) in
-          let seq : next_seq_of (granted older + 1) (notes_of first newer) ≡ 1 = omega (arith, more, none, one) in
-          (λ i. running (granted older + 1) (unwrap_or (cond (this i) (Some callback) (callback_of (granted older + 1) older)) []) (seq i) (cond (this i) (Some (end_after now seconds)) (runs_until (granted older + 1) older)))
+          let one : next_place_of (granted older + 1) (note ∷ []) ≡ 1 = (λ i. length (cond (this i) (note ∷ []) [])) in
+          let more = seq-append (granted older + 1) (notes_of start.first older) (note ∷ []) in
+          let seq : next_place_of (granted older + 1) (notes_of start.first newer) ≡ 1 = omega (arith, more, none, one) in
+          (λ i. running start.wrap (granted older + 1) (unwrap_or (cond (this i) (Some callback) (callback_of (granted older + 1) older)) []) (seq i) (cond (this i) (Some (end_after now seconds)) (runs_until (granted older + 1) older)))
+          ∙ (let low : 0 % start.wrap ≡ 0 = nothing start.wrap some in ap (λ (n : ℕ). Some (granted older + 1, record { callback = callback; end = end_after now seconds; next_seq = suc n })) low)
 
 some-is : {X : Type 0} (o : Option X) → IsSome o → (x : X) × (o ≡ Some x)
 some-is None is = absurd (cc)
 some-is (Some x) is = (x, refl)
 
-pub booked-released : (first : ℕ) (older : List Command) (now : ℕ) → IsSome (release_at now (scans_of first older) (releases_of first older)) →
-    subscribed_by first (Ticks now ∷ older) ≡ notified (expired now (subscribed_by first older))
-booked-released first older now is = let r = some-is (release_at now (scans_of first older) (releases_of first older)) is in booked-release first older now r.0 r.1
+pub booked-released : (start : Start) (older : List Command) (now : ℕ) → 0 < start.wrap → IsSome (release_at now (scans_of start.first older) (releases_of start.first older)) →
+    subscribed_by start (Ticks now ∷ older) ≡ notified start.wrap (expired now (subscribed_by start older))
+booked-released start older now some is = let r = some-is (release_at now (scans_of start.first older) (releases_of start.first older)) is in booked-release start older now r.0 some r.1
 
 -- ---- which subscriptions live
 
-pub names-alive : (first now : ℕ) (commands : List Command) →
-    alive_names now commands (notes_of first commands) ≡ map (λ (p : Entry). p.0) (alive now (subscribed_by first commands).living)
-names-alive first now commands =
-    passing (λ name. is_alive name now commands && nat_lt (next_seq_of name (notes_of first commands)) seq_limit) all
-    ∙ agree (λ name. cond (is_alive name now commands && nat_lt (next_seq_of name (notes_of first commands)) seq_limit) (Some name) None)
-    (λ name. mapped (λ (p : Entry). p.0) (kept (λ (p : Entry). nat_lt now p.1.end) (subscription_of first commands name))) all
-    (λ name a. lives name (unwrap_or (callback_of name commands) []) (next_seq_of name (notes_of first commands)) now (runs_until name commands))
-    ∙ sym (map-given (λ (p : Entry). p.0) (λ name. kept (λ (p : Entry). nat_lt now p.1.end) (subscription_of first commands name)) all)
-    ∙ ap (map (λ (p : Entry). p.0)) (sym (filter-given (λ (p : Entry). nat_lt now p.1.end) (subscription_of first commands) all))
+pub names-alive : (start : Start) (now : ℕ) (commands : List Command) →
+    alive_names now commands ≡ map (λ (p : Entry). p.0) (alive now (subscribed_by start commands).living)
+names-alive start now commands =
+    passing (λ name. is_alive name now commands) all
+    ∙ agree (λ name. cond (is_alive name now commands) (Some name) None)
+    (λ name. mapped (λ (p : Entry). p.0) (kept (λ (p : Entry). nat_lt now p.1.end) (subscription_of start commands name))) all
+    (λ name a. lives start.wrap name (unwrap_or (callback_of name commands) []) (next_place_of name (notes_of start.first commands)) now (runs_until name commands))
+    ∙ sym (map-given (λ (p : Entry). p.0) (λ name. kept (λ (p : Entry). nat_lt now p.1.end) (subscription_of start commands name)) all)
+    ∙ ap (map (λ (p : Entry). p.0)) (sym (filter-given (λ (p : Entry). nat_lt now p.1.end) (subscription_of start commands) all))
   where
     all : List ℕ
     all = range_with_len 1 (granted commands)
@@ -376,8 +339,8 @@ length-names : (living : List Entry) → length (map (λ (p : Entry). p.0) livin
 length-names [] = refl
 length-names (p ∷ living) = ap suc (length-names living)
 
-pub as-many : (first now : ℕ) (commands : List Command) → length (alive_names now commands (notes_of first commands)) ≡ length (alive now (subscribed_by first commands).living)
-as-many first now commands = ap length (names-alive first now commands) ∙ length-names (alive now (subscribed_by first commands).living)
+pub as-many : (start : Start) (now : ℕ) (commands : List Command) → length (alive_names now commands) ≡ length (alive now (subscribed_by start commands).living)
+as-many start now commands = ap length (names-alive start now commands) ∙ length-names (alive now (subscribed_by start commands).living)
 
 -- the notes of a release are those to the subscriptions that live, each under its next SEQ
 each-given : {X Y : Type 0} (P : Y → Type 0) (f : X → Option Y) (xs : List X) → ((x : X) (y : Y) → f x ≡ Some y → P y) → AllByRecursion P (filter_map f xs)
@@ -388,35 +351,30 @@ each-given {X} {Y} P f (x ∷ xs) h = by (f x) refl (each-given P f xs h)
     by None e r = r
     by (Some y) e r = (h x y e, r)
 
-abbrev Counts : ℕ → List Command → Entry → Type 0
-Counts first commands p = next_seq_of p.0 (notes_of first commands) ≡ p.1.next_seq
+abbrev Counts : Start → List Command → Entry → Type 0
+Counts start commands p = seq_at start.wrap (next_place_of p.0 (notes_of start.first commands)) ≡ p.1.next_seq
 
-running-is : (name : ℕ) (callback : List ℕ) (seq : ℕ) (o : Option ℕ) (p : Entry) → running name callback seq o ≡ Some p → (name ≡ p.0) × (seq ≡ p.1.next_seq)
-running-is name callback seq None p e = none≢some None p refl e
-running-is name callback seq (Some end) p e = by (nat_lt seq seq_limit) e
+running-is : (wrap name : ℕ) (callback : List ℕ) (place : ℕ) (o : Option ℕ) (p : Entry) → running wrap name callback place o ≡ Some p → (name ≡ p.0) × (seq_at wrap place ≡ p.1.next_seq)
+running-is wrap name callback place None p e = none≢some None p refl e
+running-is wrap name callback place (Some end) p e =
+    let same : (name, record { callback = callback; end = end; next_seq = seq_at wrap place }) ≡ p = cc in
+    (ap (λ (q : Entry). q.0) same, ap (λ (q : Entry). q.1.next_seq) same)
+
+counts : (start : Start) (commands : List Command) (name : ℕ) (p : Entry) → subscription_of start commands name ≡ Some p → Counts start commands p
+counts start commands name p e =
+    let is = running-is start.wrap name (unwrap_or (callback_of name commands) []) (next_place_of name (notes_of start.first commands)) (runs_until name commands) p e in
+    ap (λ n. seq_at start.wrap (next_place_of n (notes_of start.first commands))) (sym is.0) ∙ is.1
+
+pub notes-counted : (start : Start) (now : ℕ) (older : List Command) (release : Release) → release_at now (scans_of start.first older) (releases_of start.first older) ≡ Some release →
+    map (sent_under start.wrap) (sent_by start.first older (notes_of start.first older) (Ticks now)) ≡ map next_under (alive now (subscribed_by start older).living)
+notes-counted start now older release e =
+    ap (λ (o : Option Release). map (sent_under start.wrap) (released_notes (scans_of start.first older) o (notes_of start.first older) (alive_names now older))) e
+    ∙ (ap (λ l. map (sent_under start.wrap) (map (released_note (scans_of start.first older) release (notes_of start.first older)) l)) (names-alive start now older)
+    ∙ each (alive now (subscribed_by start older).living)
+    (each-filter (Counts start older) (λ (p : Entry). nat_lt now p.1.end) (subscribed_by start older).living (each-given (Counts start older) (subscription_of start older) (range_with_len 1 (granted older)) (counts start older))))
   where
-    this : Entry
-    this = (name, record { callback = callback; end = end; next_seq = seq })
-
-    by : (b : Bool) → cond b (Some this) None ≡ Some p → (name ≡ p.0) × (seq ≡ p.1.next_seq)
-    by true k = let same : this ≡ p = cc in (ap (λ (q : Entry). q.0) same, ap (λ (q : Entry). q.1.next_seq) same)
-    by false k = none≢some None p refl k
-
-counts : (first : ℕ) (commands : List Command) (name : ℕ) (p : Entry) → subscription_of first commands name ≡ Some p → Counts first commands p
-counts first commands name p e =
-    let is = running-is name (unwrap_or (callback_of name commands) []) (next_seq_of name (notes_of first commands)) (runs_until name commands) p e in
-    ap (λ n. next_seq_of n (notes_of first commands)) (sym is.0) ∙ is.1
-
-pub notes-counted : (first now : ℕ) (older : List Command) (release : Release) → release_at now (scans_of first older) (releases_of first older) ≡ Some release →
-    map sent_under (sent_by first older (notes_of first older) (Ticks now)) ≡ map next_under (alive now (subscribed_by first older).living)
-notes-counted first now older release e =
-    ap (λ (o : Option Release). map sent_under (released_notes (scans_of first older) o (notes_of first older) (alive_names now older (notes_of first older)))) e
-    ∙ (ap (λ l. map sent_under (map (released_note (scans_of first older) release (notes_of first older)) l)) (names-alive first now older)
-    ∙ each (alive now (subscribed_by first older).living)
-    (each-filter (Counts first older) (λ (p : Entry). nat_lt now p.1.end) (subscribed_by first older).living (each-given (Counts first older) (subscription_of first older) (range_with_len 1 (granted older)) (counts first older))))
-  where
-    each : (living : List Entry) → AllByRecursion (Counts first older) living
-        → map sent_under (map (released_note (scans_of first older) release (notes_of first older)) (map (λ (p : Entry). p.0) living)) ≡ map next_under living
+    each : (living : List Entry) → AllByRecursion (Counts start older) living
+        → map (sent_under start.wrap) (map (released_note (scans_of start.first older) release (notes_of start.first older)) (map (λ (p : Entry). p.0) living)) ≡ map next_under living
     each [] all = refl
     each (p ∷ living) all = λ i. (p.0, all.0 i) ∷ each living all.1 i
 
@@ -492,44 +450,39 @@ module _ (f : ℕ → Option Entry) (named : (n : ℕ) (p : Entry) → f n ≡ S
           ap (λ x. lookup (nat_eq number) (cons_option (f x) (filter_map f (range_with_len (a + 1) n)))) (sym e)
           ∙ here-cons (f number) refl (filter_map f (range_with_len (a + 1) n)) (outside (a + 1) n (inl (omega (arith, e))))
 
-runs-or : (name : ℕ) (callback : List ℕ) (seq now : ℕ) (o : Option ℕ) → is_running now (value_of (running name callback seq o)) ≡ is_some (unless_past now o) && nat_lt seq seq_limit
-runs-or name callback seq now None = refl
-runs-or name callback seq now (Some end) = by (nat_lt now end) (nat_lt seq seq_limit) refl
+runs-or : (wrap name : ℕ) (callback : List ℕ) (place now : ℕ) (o : Option ℕ) → is_running now (value_of (running wrap name callback place o)) ≡ is_some (unless_past now o)
+runs-or wrap name callback place now None = refl
+runs-or wrap name callback place now (Some end) = by (nat_lt now end)
   where
-    this : Entry
-    this = (name, record { callback = callback; end = end; next_seq = seq })
+    by : (b : Bool) → b ≡ is_some (cond b (Some end) None)
+    by true = refl
+    by false = refl
 
-    by : (b d : Bool) → nat_lt now end ≡ b → is_running now (value_of (cond d (Some this) None)) ≡ is_some (cond b (Some end) None) && d
-    by true true e = e
-    by true false e = refl
-    by false true e = e
-    by false false e = refl
+none-alive : (b : Bool) → (b ≡ true → ⊥) → false ≡ b
+none-alive true h = absurd (h refl)
+none-alive false h = refl
 
-none-alive : (b d : Bool) → (b ≡ true → ⊥) → false ≡ b && d
-none-alive true d h = absurd (h refl)
-none-alive false d h = refl
-
-pub number-alive : (first now : ℕ) (commands : List Command) (number : ℕ) → holds_alive now number (subscribed_by first commands).living
-    ≡ is_alive number now commands && nat_lt (next_seq_of number (notes_of first commands)) seq_limit
-number-alive first now commands number = by (cases_lt number 1) (cases_lt (granted commands) number)
+pub number-alive : (start : Start) (now : ℕ) (commands : List Command) (number : ℕ) → holds_alive now number (subscribed_by start commands).living
+    ≡ is_alive number now commands
+number-alive start now commands number = by (cases_lt number 1) (cases_lt (granted commands) number)
   where
     f : ℕ → Option Entry
-    f = subscription_of first commands
+    f = subscription_of start commands
 
     named : (n : ℕ) (p : Entry) → f n ≡ Some p → n ≡ p.0
-    named n p e = (running-is n (unwrap_or (callback_of n commands) []) (next_seq_of n (notes_of first commands)) (runs_until n commands) p e).0
+    named n p e = (running-is start.wrap n (unwrap_or (callback_of n commands) []) (next_place_of n (notes_of start.first commands)) (runs_until n commands) p e).0
 
     Goal : Type 0
-    Goal = holds_alive now number (subscribed_by first commands).living ≡ is_alive number now commands && nat_lt (next_seq_of number (notes_of first commands)) seq_limit
+    Goal = holds_alive now number (subscribed_by start commands).living ≡ is_alive number now commands
 
     out : (number < 1) ⊎ (1 + granted commands ≤ number) → ((is_some (runs_until number commands) ≡ true) → ⊥) → Goal
     out away never =
         ap (is_running now) (outside f named number 1 (granted commands) away)
-        ∙ none-alive (is_alive number now commands) (nat_lt (next_seq_of number (notes_of first commands)) seq_limit) (λ e. never (past-runs now (runs_until number commands) e))
+        ∙ none-alive (is_alive number now commands) (λ e. never (past-runs now (runs_until number commands) e))
 
     by : (number < 1) ⊎ (1 ≤ number) → (granted commands < number) ⊎ (number ≤ granted commands) → Goal
     by (inl l) any = out (inl l) (λ e. let low = (runs-named number commands e).0 in omega (arith, low, l))
     by (inr l) (inl m) = out (inr (omega (arith, m))) (λ e. let high = (runs-named number commands e).1 in omega (arith, high, m))
     by (inr l) (inr m) =
         ap (is_running now) (inside f named number 1 (granted commands) l (omega (arith, m)))
-        ∙ runs-or number (unwrap_or (callback_of number commands) []) (next_seq_of number (notes_of first commands)) now (runs_until number commands)
+        ∙ runs-or start.wrap number (unwrap_or (callback_of number commands) []) (next_place_of number (notes_of start.first commands)) now (runs_until number commands)

@@ -19,7 +19,7 @@ use Rattle.cds_gena.specs.declared.gena.Gena.{Gena}
 use Rattle.cds_gena.specs.declared.gena.Gena.TheVariants.{Subscribe, Renew}
 use Rattle.cds_gena.specs.SidText.{sid_in}
 use Rattle.cds_gena.specs.Asked.{Answers, IsDeliverable, behind_spaces, callback_in, deliverable, enclosed, is_deliverable, is_event, renewing, seconds_of, subscribe_of, subscribing, url_in}
-use Rattle.cds_gena.specs.Subscribed.{IsBook, IsDelivered, AreDelivered, address_of, alive, has_next, raised, until}
+use Rattle.cds_gena.specs.Subscribed.{IsBook, IsDelivered, AreDelivered, address_of, alive, raised, until}
 use Rattle.cds_gena.proofs.Granted.{granted-filter, granted-until, granted-raised, granted-more}
 
 abbrev Entry : Type 0
@@ -73,12 +73,11 @@ book-until names granted number end es b = record {
   delivered = goes-map (until number end) es (until-callback number end) b.delivered;
 }
 
-pub book-raised : (names granted now : ℕ) (es : List Entry) → IsBook names granted es → IsBook names granted (map raised (filter has_next (alive now es)))
-book-raised names granted now es b = record {
+pub book-raised : (names wrap granted now : ℕ) (es : List Entry) → IsBook names granted es → IsBook names granted (map (raised wrap) (alive now es))
+book-raised names wrap granted now es b = record {
   room = b.room;
-  among = granted-raised granted now es b.among;
-  delivered = goes-map raised (filter has_next (alive now es)) (λ e. refl)
-      (each-filter Goes has_next (alive now es) (each-filter Goes (λ (e : Entry). nat_lt now e.1.end) es b.delivered));
+  among = granted-raised wrap granted now es b.among;
+  delivered = goes-map (raised wrap) (alive now es) (λ e. refl) (each-filter Goes (λ (e : Entry). nat_lt now e.1.end) es b.delivered);
 }
 
 pub book-more : (names granted : ℕ) (s : Subscription) (es : List Entry) → IsSome (url_in s.callback) → IsBook names granted es

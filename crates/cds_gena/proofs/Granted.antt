@@ -4,7 +4,7 @@ use Rattle.std.specs.List.{AllByRecursion}
 use Rattle.std.specs.Map.{lookup}
 use Rattle.cds_catalog.proofs.StepsFind.{each-append, each-weaker, each-filter, each-map}
 use Rattle.cds_gena.specs.declared.book.Subscription.{Subscription}
-use Rattle.cds_gena.specs.Subscribed.{AreGranted, alive, has_next, raised, until}
+use Rattle.cds_gena.specs.Subscribed.{AreGranted, alive, raised, until}
 
 abbrev Entry : Type 0
 Entry = ℕ × Subscription
@@ -41,10 +41,10 @@ until-key number end e = by (nat_eq e.0 number)
 pub granted-until : (granted number end : ℕ) (es : List Entry) → AreGranted granted es → AreGranted granted (map (until number end) es)
 granted-until granted number end es are = granted-map granted (until number end) es (until-key number end) are
 
-pub granted-raised : (granted now : ℕ) (es : List Entry) → AreGranted granted es → AreGranted granted (map raised (filter has_next (alive now es)))
-granted-raised granted now es are =
-    granted-map granted raised (filter has_next (alive now es)) (λ e. refl)
-    (granted-filter granted has_next (alive now es) (granted-filter granted (λ (e : Entry). nat_lt now e.1.end) es are))
+pub granted-raised : (wrap granted now : ℕ) (es : List Entry) → AreGranted granted es → AreGranted granted (map (raised wrap) (alive now es))
+granted-raised wrap granted now es are =
+    granted-map granted (raised wrap) (alive now es) (λ e. refl)
+    (granted-filter granted (λ (e : Entry). nat_lt now e.1.end) es are)
 
 pub granted-more : (granted : ℕ) (s : Subscription) (es : List Entry) → AreGranted granted es → AreGranted (granted + 1) (es ++ (granted + 1, s) ∷ [])
 granted-more granted s es are =

@@ -11,11 +11,11 @@ use Rattle.cds_changes.proofs.Numbers.{range-more}
 use Rattle.cds_commands.specs.Commands.{Command, Start, Scans, Grants, Renews, Ends, Ticks, Stops}
 use Rattle.cds_commands.specs.Names.{name_of, names_of}
 use Rattle.cds_commands.specs.Subscriptions.{granted, end_after, renewed_until, unless_past, runs_until, is_alive, subscription_limit}
-use Rattle.cds_commands.specs.Notes.{Note, next_seq_of, seq_limit, alive_names, sent_by, notes_of}
+use Rattle.cds_commands.specs.Notes.{alive_names}
 use Rattle.cds_commands.proofs.Among.{Among, row-among, seq-append}
 use Rattle.cds_gena.specs.SidText.{sid_in, sid_text}
 use Rattle.cds_gena.specs.Subscribed.{Booked, Subscribed, StandsFor, alive, holds_alive, if_alive, last_number, living_named, number_of, subscribed_by}
-use Rattle.cds_gena.specs.Served.{Served, lives_at}
+use Rattle.cds_gena.specs.Served.{Served}
 use Rattle.cds_gena.proofs.Commands.{as-many, number-alive, runs-named}
 
 -- ---- counting
@@ -43,10 +43,6 @@ first-of : (a b : Bool) → (a && b) ≡ true → a ≡ true
 first-of true b e = refl
 first-of false b e = absurd (true≢false (sym e))
 
-second-of : (a b : Bool) → (a && b) ≡ true → b ≡ true
-second-of true b e = e
-second-of false b e = absurd (true≢false (sym e))
-
 both : (a b : Bool) → a ≡ true → b ≡ true → (a && b) ≡ true
 both a b e f = ap (λ c. c && b) e ∙ f
 
@@ -71,114 +67,96 @@ past-twice m now o e = by (unless_past m o) e
     by None k = k
     by (Some end) k = refl
 
--- a SEQ that is left was left before
-seq-before : (first number : ℕ) (older : List Command) (command : Command)
-    → nat_lt (next_seq_of number (notes_of first (command ∷ older))) seq_limit ≡ true → nat_lt (next_seq_of number (notes_of first older)) seq_limit ≡ true
-seq-before first number older command e =
-    let sum = seq-append number (notes_of first older) (sent_by first older (notes_of first older) command) in
-    below (next_seq_of number (notes_of first older)) (next_seq_of number (notes_of first (command ∷ older))) seq_limit (omega (arith, sum)) e
-
--- what lives behind a command lived before it at an earlier moment, if its end tells so
-module _ (first m now number : ℕ) (older : List Command) (command : Command)
-    (ends : is_alive number now (command ∷ older) ≡ true → is_alive number m older ≡ true) where
-  lived : lives_at first now (command ∷ older) number ≡ true → lives_at first m older number ≡ true
-  lived e =
-      both (is_alive number m older) (nat_lt (next_seq_of number (notes_of first older)) seq_limit)
-      (ends (first-of (is_alive number now (command ∷ older)) (nat_lt (next_seq_of number (notes_of first (command ∷ older))) seq_limit) e))
-      (seq-before first number older command
-      (second-of (is_alive number now (command ∷ older)) (nat_lt (next_seq_of number (notes_of first (command ∷ older))) seq_limit) e))
-
 -- ---- the bound
 
-abbrev live : ℕ → ℕ → List Command → ℕ
-live first now commands = length (filter (lives_at first now commands) (range_with_len 1 (granted commands)))
+abbrev live : ℕ → List Command → ℕ
+live now commands = length (alive_names now commands)
 
 one-behind : (n : ℕ) → n + 1 ≡ suc n
 one-behind n = omega arith
 
-granted-lived : (first now m : ℕ) (callback : List ℕ) (seconds : ℕ) (older : List Command) → m ≤ now
-    → live first now (Grants m callback seconds ∷ older) ≤ live first m older + 1
-granted-lived first now m callback seconds older l =
+granted-lived : (now m : ℕ) (callback : List ℕ) (seconds : ℕ) (older : List Command) → m ≤ now
+    → live now (Grants m callback seconds ∷ older) ≤ live m older + 1
+granted-lived now m callback seconds older l =
     let row : range_with_len 1 (granted older + 1) ≡ range_with_len 1 (granted older) ++ (1 + granted older) ∷ [] = ap (range_with_len 1) (one-behind (granted older)) ∙ range-more 1 (granted older) in
-    let cut : live first now newer ≡ length (filter p (range_with_len 1 (granted older)) ++ filter p ((1 + granted older) ∷ []))
+    let cut : live now newer ≡ length (filter p (range_with_len 1 (granted older)) ++ filter p ((1 + granted older) ∷ []))
     = ap (λ r. length (filter p r)) row ∙ ap length (filter-append p (range_with_len 1 (granted older)) ((1 + granted older) ∷ [])) in
     let sum = length-append (filter p (range_with_len 1 (granted older))) (filter p ((1 + granted older) ∷ [])) in
     let one = one-more p (1 + granted older) in
-    let rest = fewer p (lives_at first m older) (range_with_len 1 (granted older)) (λ x a. before x (row-among 1 (granted older) x a).1) in
+    let rest = fewer p (λ (n : ℕ). is_alive n m older) (range_with_len 1 (granted older)) (λ x a. before x (row-among 1 (granted older) x a).1) in
     omega (arith, cut, sum, one, rest)
   where
     newer : List Command
     newer = Grants m callback seconds ∷ older
 
     p : ℕ → Bool
-    p = lives_at first now newer
+    p n = is_alive n now newer
 
-    before : (x : ℕ) → x < 1 + granted older → p x ≡ true → lives_at first m older x ≡ true
-    before x small e = lived first m now x older (Grants m callback seconds) (λ k. by (nat_eq x (granted older + 1)) refl k) e
+    before : (x : ℕ) → x < 1 + granted older → p x ≡ true → is_alive x m older ≡ true
+    before x small e = by (nat_eq x (granted older + 1)) refl e
       where
         by : (b : Bool) → nat_eq x (granted older + 1) ≡ b → is_some (unless_past now (cond b (Some (end_after m seconds)) (runs_until x older))) ≡ true
             → is_some (unless_past m (runs_until x older)) ≡ true
         by true h k = let same = eqb-true x (granted older + 1) h in absurd (omega (arith, same, small))
         by false h k = earlier m now (runs_until x older) l k
 
-renewed-lived : (first now m other seconds : ℕ) (older : List Command) → m ≤ now → lives_at first m older other ≡ true → (x : ℕ)
-    → lives_at first now (Renews m other seconds ∷ older) x ≡ true → lives_at first m older x ≡ true
-renewed-lived first now m other seconds older l living x e = by (nat_eq x other) refl
+renewed-lived : (now m other seconds : ℕ) (older : List Command) → m ≤ now → is_alive other m older ≡ true → (x : ℕ)
+    → is_alive x now (Renews m other seconds ∷ older) ≡ true → is_alive x m older ≡ true
+renewed-lived now m other seconds older l living x e = by (nat_eq x other) refl
   where
-    by : (b : Bool) → nat_eq x other ≡ b → lives_at first m older x ≡ true
-    by true h = ap (lives_at first m older) (eqb-true x other h) ∙ living
+    by : (b : Bool) → nat_eq x other ≡ b → is_alive x m older ≡ true
+    by true h = ap (λ (n : ℕ). is_alive n m older) (eqb-true x other h) ∙ living
     by false h =
-        lived first m now x older (Renews m other seconds)
-        (λ k. earlier m now (runs_until x older) l
-        (ap (λ b. is_some (unless_past now (cond b (renewed_until (end_after m seconds) (runs_until x older)) (runs_until x older)))) (sym h) ∙ k)) e
+        earlier m now (runs_until x older) l
+        (ap (λ b. is_some (unless_past now (cond b (renewed_until (end_after m seconds) (runs_until x older)) (runs_until x older)))) (sym h) ∙ e)
 
-ended-lived : (first now m other : ℕ) (older : List Command) → m ≤ now → (x : ℕ)
-    → lives_at first now (Ends m other ∷ older) x ≡ true → lives_at first m older x ≡ true
-ended-lived first now m other older l x e = lived first m now x older (Ends m other) (λ k. by (nat_eq x other) k) e
+ended-lived : (now m other : ℕ) (older : List Command) → m ≤ now → (x : ℕ)
+    → is_alive x now (Ends m other ∷ older) ≡ true → is_alive x m older ≡ true
+ended-lived now m other older l x e = by (nat_eq x other) e
   where
     by : (b : Bool) → is_some (unless_past now (cond b None (runs_until x older))) ≡ true → is_some (unless_past m (runs_until x older)) ≡ true
     by true k = absurd (true≢false (sym k))
     by false k = earlier m now (runs_until x older) l k
 
-pub few : (first now : ℕ) (commands : List Command) → Served first now commands → live first now commands ≤ 64
-few first now [] h = omega arith
-few first now (Scans library ∷ older) h =
-    let rest = few first now older h in
-    let less = fewer (lives_at first now (Scans library ∷ older)) (lives_at first now older) (range_with_len 1 (granted older))
-    (λ x a e. lived first now now x older (Scans library) (λ k. k) e) in
+pub few : (now : ℕ) (commands : List Command) → Served now commands → live now commands ≤ 64
+few now [] h = omega arith
+few now (Scans library ∷ older) h =
+    let rest = few now older h in
+    let less = fewer (λ (n : ℕ). is_alive n now (Scans library ∷ older)) (λ (n : ℕ). is_alive n now older) (range_with_len 1 (granted older))
+    (λ x a e. e) in
     omega (arith, rest, less)
-few first now (Grants m callback seconds ∷ older) (l, room, h) =
-    let free : live first m older < 64 = ltb-true (live first m older) 64 room in
-    let more = granted-lived first now m callback seconds older l in
+few now (Grants m callback seconds ∷ older) (l, room, h) =
+    let free : live m older < 64 = ltb-true (live m older) 64 room in
+    let more = granted-lived now m callback seconds older l in
     omega (arith, free, more)
-few first now (Renews m other seconds ∷ older) (l, living, h) =
-    let rest = few first m older h in
-    let less = fewer (lives_at first now (Renews m other seconds ∷ older)) (lives_at first m older) (range_with_len 1 (granted older))
-    (λ x a e. renewed-lived first now m other seconds older l living x e) in
+few now (Renews m other seconds ∷ older) (l, living, h) =
+    let rest = few m older h in
+    let less = fewer (λ (n : ℕ). is_alive n now (Renews m other seconds ∷ older)) (λ (n : ℕ). is_alive n m older) (range_with_len 1 (granted older))
+    (λ x a e. renewed-lived now m other seconds older l living x e) in
     omega (arith, rest, less)
-few first now (Ends m other ∷ older) (l, h) =
-    let rest = few first m older h in
-    let less = fewer (lives_at first now (Ends m other ∷ older)) (lives_at first m older) (range_with_len 1 (granted older))
-    (λ x a e. ended-lived first now m other older l x e) in
+few now (Ends m other ∷ older) (l, h) =
+    let rest = few m older h in
+    let less = fewer (λ (n : ℕ). is_alive n now (Ends m other ∷ older)) (λ (n : ℕ). is_alive n m older) (range_with_len 1 (granted older))
+    (λ x a e. ended-lived now m other older l x e) in
     omega (arith, rest, less)
-few first now (Ticks m ∷ older) (l, h) =
-    let rest = few first m older h in
-    let less = fewer (lives_at first now (Ticks m ∷ older)) (lives_at first m older) (range_with_len 1 (granted older))
-    (λ x a e. lived first m now x older (Ticks m) (λ k. past-twice m now (runs_until x older) k) e) in
+few now (Ticks m ∷ older) (l, h) =
+    let rest = few m older h in
+    let less = fewer (λ (n : ℕ). is_alive n now (Ticks m ∷ older)) (λ (n : ℕ). is_alive n m older) (range_with_len 1 (granted older))
+    (λ x a e. past-twice m now (runs_until x older) e) in
     omega (arith, rest, less)
-few first now (Stops ∷ older) h =
-    let rest = few first now older h in
-    let less = fewer (lives_at first now (Stops ∷ older)) (lives_at first now older) (range_with_len 1 (granted older))
-    (λ x a e. lived first now now x older Stops (λ k. k) e) in
+few now (Stops ∷ older) h =
+    let rest = few now older h in
+    let less = fewer (λ (n : ℕ). is_alive n now (Stops ∷ older)) (λ (n : ℕ). is_alive n now older) (range_with_len 1 (granted older))
+    (λ x a e. e) in
     omega (arith, rest, less)
 
 -- the same of a book
-pub few-of : (book : Booked) (start : Start) (commands : List Command) (now : ℕ) → StandsFor book start commands → Served start.first now commands
+pub few-of : (book : Booked) (start : Start) (commands : List Command) (now : ℕ) → StandsFor book start commands → Served now commands
     → length (alive now book.subscribed.living) ≤ 64
 few-of book start commands now stands served =
     let same = ap (λ (s : Subscribed). length (alive now s.living)) stands.subscribed in
-    let count = as-many start.first now commands in
-    let least = few start.first now commands served in
+    let count = as-many start now commands in
+    let least = few now commands served in
     omega (arith, same, count, least)
 
 -- ---- names
@@ -223,10 +201,10 @@ alive-of living now number (Some n) e = by (holds_alive now n living.living) ref
     by false h k = absurd (true≢false (sym (ap is_some k)))
 
 pub named-numbers : (book : Booked) (start : Start) (commands : List Command) (now name number : ℕ) → StandsFor book start commands → granted commands ≤ last_number
-    → (living_named now name book ≡ Some number) ↔ ((name ≡ name_of start number) × (lives_at start.first now commands number ≡ true))
+    → (living_named now name book ≡ Some number) ↔ ((name ≡ name_of start number) × (is_alive number now commands ≡ true))
 named-numbers book start commands now name number stands few =
-    let held : holds_alive now number book.subscribed.living ≡ lives_at start.first now commands number
-    = ap (λ (s : Subscribed). holds_alive now number s.living) stands.subscribed ∙ number-alive start.first now commands number in (
+    let held : holds_alive now number book.subscribed.living ≡ is_alive number now commands
+    = ap (λ (s : Subscribed). holds_alive now number s.living) stands.subscribed ∙ number-alive start now commands number in (
       λ e.
           let of = alive-of book.subscribed now number (number_of book.names name) e in
           (number-is book.names name number of.0 ∙ ap (λ n. n + number) stands.names, sym held ∙ of.1),
@@ -242,10 +220,10 @@ named-numbers book start commands now name number stands few =
     some-before None e = e
     some-before (Some end) e = refl
 
-    within : lives_at start.first now commands number ≡ true → number ≤ last_number
+    within : is_alive number now commands ≡ true → number ≤ last_number
     within e =
         let most = (runs-named number commands (some-before (runs_until number commands)
-        (first-of (is_alive number now commands) (nat_lt (next_seq_of number (notes_of start.first commands)) seq_limit) e))).1 in
+        e)).1 in
         omega (arith, most, few)
 
 -- ---- the text of a name

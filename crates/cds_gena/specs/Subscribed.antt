@@ -1,4 +1,4 @@
--- The subscriptions that a server keeps. They are a function of its first number and of the commands that it accepted,
+-- The subscriptions that a server keeps. They are a function of what it began with and of the commands that it accepted,
 -- the newest first. The commands alone say what a subscription is (UPnP Device Architecture 2.0 on eventing).
 use Rattle.std.specs.Prelude.{◌≡◌, ◌+◌, ◌-◌, ◌≤◌, ◌^◌, ◌&&◌, ℕ, Bool, false, cond, not, nat_eq, nat_lt, nat_le, List, [], ◌∷◌, ◌++◌, map, filter, length, Option, Some, None, IsSome, unwrap_or}
 use Rattle.std.specs.List.{AllByRecursion, filter_map, range_with_len}
@@ -6,7 +6,8 @@ use Rattle.std.specs.Map.{lookup}
 use Rattle.cds_commands.specs.Commands.{Command, Start}
 use Rattle.cds_commands.specs.Names.{names_of}
 use Rattle.cds_commands.specs.Subscriptions.{granted, end_after, runs_until, callback_of, subscription_limit}
-use Rattle.cds_commands.specs.Notes.{next_seq_of, seq_limit, notes_of}
+use Rattle.cds_commands.specs.Notes.{next_place_of, notes_of}
+use Rattle.cds_commands.specs.Places.{seq_at, seq_after}
 use Rattle.cds_gena.specs.Asked.{url_in}
 use Rattle.cds_gena.specs.declared.address.Address.{Address}
 use Rattle.cds_gena.specs.declared.book.Subscription.{Subscription}
@@ -16,36 +17,42 @@ use Rattle.cds_gena.specs.declared.error.GenaError.TheVariants.{Full, Spent}
 -- ---- by the commands
 
 -- a subscription with its number among the grants: its callback, the moment at which it runs out, and the SEQ of its
--- next note; none if it has ended or no SEQ is left
-abbrev pub running : ℕ → List ℕ → ℕ → Option ℕ → Option (ℕ × Subscription)
-running number callback seq None = None
-running number callback seq (Some end) =
-    cond (nat_lt seq seq_limit) (Some (number, record { callback = callback; end = end; next_seq = seq })) None
+-- next note, by the place of that note; none if it has ended
+abbrev pub running : ℕ → ℕ → List ℕ → ℕ → Option ℕ → Option (ℕ × Subscription)
+running wrap number callback place None = None
+running wrap number callback place (Some end) = Some (number, record { callback = callback; end = end; next_seq = seq_at wrap place })
 
-abbrev pub subscription_of : ℕ → List Command → ℕ → Option (ℕ × Subscription)
-subscription_of first commands number =
-    running number (unwrap_or (callback_of number commands) []) (next_seq_of number (notes_of first commands)) (runs_until number commands)
+abbrev pub subscription_of : Start → List Command → ℕ → Option (ℕ × Subscription)
+subscription_of start commands number =
+    running start.wrap number (unwrap_or (callback_of number commands) []) (next_place_of number (notes_of start.first commands)) (runs_until number commands)
 
 -- how many subscriptions were granted, and those that have not ended, in the order in which they were granted
 pub record Subscribed : Type 0 where
   pub granted : ℕ
   pub living : List (ℕ × Subscription)
 
-abbrev pub subscribed_by : ℕ → List Command → Subscribed
-subscribed_by first commands = record {
+abbrev pub subscribed_by : Start → List Command → Subscribed
+subscribed_by start commands = record {
   granted = granted commands;
-  living = filter_map (subscription_of first commands) (range_with_len 1 (granted commands));
+  living = filter_map (subscription_of start commands) (range_with_len 1 (granted commands));
 }
 
--- a book: its subscriptions, and the name of number 0
+-- a book: its subscriptions, the name of number 0, and the SEQ after which comes SEQ 1
 pub record Booked : Type 0 where
   pub names : ℕ
+  pub wrap : ℕ
   pub subscribed : Subscribed
+
+-- the least SEQ after which SEQ 1 may come
+abbrev pub least_wrap : ℕ
+least_wrap = 256
 
 -- a book has what the commands say
 pub record StandsFor (book : Booked) (start : Start) (commands : List Command) : Type 0 where
   pub names : book.names ≡ names_of start
-  pub subscribed : book.subscribed ≡ subscribed_by start.first commands
+  pub wrap : book.wrap ≡ start.wrap
+  pub wide : least_wrap ≤ start.wrap
+  pub subscribed : book.subscribed ≡ subscribed_by start commands
 
 -- ---- step by step
 
@@ -80,15 +87,12 @@ without number s = record { granted = s.granted; living = filter (λ (p : ℕ ×
 abbrev pub expired : ℕ → Subscribed → Subscribed
 expired now s = record { granted = s.granted; living = alive now s.living }
 
--- after each was sent a note: its SEQ is raised, or it ends if that SEQ was the last one
-abbrev pub has_next : (ℕ × Subscription) → Bool
-has_next p = nat_lt p.1.next_seq (seq_limit - 1)
+-- after each was sent a note: the SEQ of its next note is the one after that
+abbrev pub raised : ℕ → (ℕ × Subscription) → ℕ × Subscription
+raised wrap p = (p.0, record { callback = p.1.callback; end = p.1.end; next_seq = seq_after wrap p.1.next_seq })
 
-abbrev pub raised : (ℕ × Subscription) → ℕ × Subscription
-raised p = (p.0, record { callback = p.1.callback; end = p.1.end; next_seq = p.1.next_seq + 1 })
-
-abbrev pub notified : Subscribed → Subscribed
-notified s = record { granted = s.granted; living = map raised (filter has_next s.living) }
+abbrev pub notified : ℕ → Subscribed → Subscribed
+notified wrap s = record { granted = s.granted; living = map (raised wrap) s.living }
 
 -- ---- names
 

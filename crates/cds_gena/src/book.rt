@@ -6,12 +6,13 @@ ghost use Rattle.indexmap.specs.IndexMap.{get};
 ghost use Rattle.url.specs.Parts.{serialize};
 ghost use Rattle.cds_commands.specs.Commands.{Command, Start, Grants, Renews, Ends, Ticks, scans_of};
 ghost use Rattle.cds_commands.specs.Names.{high_word, low_word, name_of, names_of};
+ghost use Rattle.cds_commands.specs.Places.{seq_after};
 ghost use Rattle.cds_commands.specs.Releases.{release_at, releases_of};
 ghost use Rattle.cds_commands.specs.Subscriptions.{end_after, granted};
 ghost use Rattle.cds_gena.specs.declared.error.GenaError.TheVariants as GenaError;
 ghost use Rattle.cds_gena.specs.Asked.{is_deliverable};
 ghost use Rattle.cds_gena.specs.Served.{Served};
-ghost use Rattle.cds_gena.specs.Subscribed.{IsDelivered, StandsFor, address_of, alive, expired, grant_refusal, has_next, holds_alive, living_named, nothing_granted, notified, number_of, raised, renewed, until, with_grant, without};
+ghost use Rattle.cds_gena.specs.Subscribed.{IsDelivered, StandsFor, address_of, alive, expired, grant_refusal, holds_alive, least_wrap, living_named, nothing_granted, notified, number_of, raised, renewed, until, with_grant, without};
 
 use crate::address::{Address, Addresses};
 use crate::error::GenaError;
@@ -45,6 +46,8 @@ type Living = IndexMap<u32, Subscription>;
 pub struct Book {
     /// The name of number 0.
     names: u128,
+    /// The SEQ after which comes SEQ 1.
+    wrap: u32,
     granted: u32,
     living: Living,
 }
@@ -54,7 +57,7 @@ impl Model for Book {
 
     ghost Value = { Booked };
 
-    ghost view = { λ b. record { names = b.names; subscribed = record { granted = b.granted; living = b.living.entries } } };
+    ghost view = { λ b. record { names = b.names; wrap = b.wrap; subscribed = record { granted = b.granted; living = b.living.entries } } };
 
     ghost invariant = { λ b. IsBook b.names b.granted b.living.entries };
 }
@@ -121,15 +124,19 @@ fn drop_past(living: &mut Living, now: u64)
     living.retain(|_, s| now < s.end);
 }
 
-/// Raises the SEQ of each subscription. Drops those for which no SEQ is left.
-fn raise(living: &mut Living)
-    ensures { living.new.entries ≡ map raised (filter has_next living.old.entries) }
+/// Returns the SEQ after a SEQ: 1 comes after the last one.
+fn seq_after(wrap: u32, seq: u32) -> u32
+    ensures { result ≡ seq_after wrap seq }
+{
+    if seq < wrap { seq + 1 } else { 1 }
+}
+
+/// Gives each subscription the SEQ after that of its last note.
+fn raise(living: &mut Living, wrap: u32)
+    ensures { living.new.entries ≡ map (raised wrap) living.old.entries }
 {
     living.retain(|_, s| {
-        if s.next_seq == u32::MAX {
-            return false;
-        }
-        s.next_seq += 1;
+        s.next_seq = seq_after(wrap, s.next_seq);
         true
     });
 }
@@ -189,16 +196,31 @@ fn low_word(low: u64) -> u64
 }
 
 impl Book {
-    /// Returns a book without any subscription, by the two boot words of a server. This takes no memory.
+    /// Returns a book without any subscription, by the two boot words of a server. After SEQ 4294967295 comes SEQ 1, as
+    /// UPnP Device Architecture 2.0 has it. This takes no memory.
     pub fn new(alloc: Global, boot: [u64; 2]) -> Book
         ensures nothing { result.subscribed ≡ nothing_granted }
-        ensures stands { (start : Start) → start.high ≡ slice_index boot 0 → start.low ≡ slice_index boot 1 → StandsFor result start [] }
-        ensures names { (first : ℕ) → result.names ≡ names_of (record { high = slice_index boot 0; low = slice_index boot 1; first = first }) }
+        ensures wrap { result.wrap ≡ 4294967295 }
+        ensures stands { (start : Start) → start.high ≡ slice_index boot 0 → start.low ≡ slice_index boot 1 → start.wrap ≡ 4294967295 → StandsFor result start [] }
+        ensures names { (first wrap : ℕ) → result.names ≡ names_of (record { high = slice_index boot 0; low = slice_index boot 1; first = first; wrap = wrap }) }
+    {
+        Book::with_wrap(alloc, boot, u32::MAX)
+    }
+
+    /// Returns such a book in which SEQ 1 comes after another SEQ, which is at least 256. It is for tests. This takes no
+    /// memory.
+    pub fn with_wrap(alloc: Global, boot: [u64; 2], wrap: u32) -> Book
+        requires wrap { least_wrap ≤ wrap }
+        ensures nothing { result.subscribed ≡ nothing_granted }
+        ensures wrap { result.wrap ≡ wrap }
+        ensures stands { (start : Start) → start.high ≡ slice_index boot 0 → start.low ≡ slice_index boot 1 → start.wrap ≡ wrap → StandsFor result start [] }
+        ensures names { (first : ℕ) → result.names ≡ names_of (record { high = slice_index boot 0; low = slice_index boot 1; first = first; wrap = wrap }) }
     {
         let names = u128::from(high_word(boot[0])) * 18_446_744_073_709_551_616
             + u128::from(low_word(boot[1]));
         Book {
             names,
+            wrap,
             granted: 0,
             living: IndexMap::new(alloc),
         }
@@ -222,7 +244,7 @@ impl Book {
     /// so far were accepted and no moment was before that of an earlier call.
     pub fn live(&self, now: u64) -> usize
         ensures exact { result ≡ length (alive now self.now.subscribed.living) }
-        ensures few { (start : Start) (commands : List Command) → StandsFor self.now start commands → Served start.first now commands → result ≤ 64 }
+        ensures few { (start : Start) (commands : List Command) → StandsFor self.now start commands → Served now commands → result ≤ 64 }
     {
         count_alive(&self.living, now)
     }
@@ -278,6 +300,7 @@ impl Book {
             → IfOk result (λ sid. (sid.0 ≡ name_of start (granted commands + 1))
             × StandsFor self.new start (Grants now (serialize callback.now) seconds ∷ commands)) }
         ensures names { self.new.names ≡ self.old.names }
+        ensures wrap { self.new.wrap ≡ self.old.wrap }
         ensures kept { OnErr result (self.new ≡ self.old) }
     {
         if let Some(refusal) = self.grant_refusal(now) {
@@ -305,6 +328,7 @@ impl Book {
             → OnOk result (IfSome (living_named now sid.0 self.old) (λ number. StandsFor self.new start (Renews now number seconds ∷ commands))) }
         ensures errors { IfErr result (λ e. e ≡ GenaError.Precondition) }
         ensures names { self.new.names ≡ self.old.names }
+        ensures wrap { self.new.wrap ≡ self.old.wrap }
         ensures kept { OnErr result (self.new ≡ self.old) }
     {
         match self.living_named(now, sid) {
@@ -325,6 +349,7 @@ impl Book {
             → OnOk result (IfSome (living_named now sid.0 self.old) (λ number. StandsFor self.new start (Ends now number ∷ commands))) }
         ensures errors { IfErr result (λ e. e ≡ GenaError.Precondition) }
         ensures names { self.new.names ≡ self.old.names }
+        ensures wrap { self.new.wrap ≡ self.old.wrap }
         ensures kept { OnErr result (self.new ≡ self.old) }
     {
         match self.living_named(now, sid) {
@@ -343,28 +368,29 @@ impl Book {
             → release_at now (scans_of start.first commands) (releases_of start.first commands) ≡ None
             → StandsFor self.new start (Ticks now ∷ commands) }
         ensures names { self.new.names ≡ self.old.names }
+        ensures wrap { self.new.wrap ≡ self.old.wrap }
     {
         drop_past(&mut self.living, now);
     }
 
     /// Drops the subscriptions that have run out at a moment. Appends the address of a note to each of the others, in
-    /// the order in which they were granted, and raises their SEQs. A subscription ends if its note has the last SEQ.
-    /// Each address has a callback at which notes can be delivered. All memory is taken first: if it runs out, nothing
-    /// changes.
+    /// the order in which they were granted. After the last SEQ comes SEQ 1, and the subscription lives on. Each address
+    /// has a callback at which notes can be delivered. All memory is taken first: if it runs out, nothing changes.
     pub fn next_notes(&mut self, alloc: Global, now: u64, out: &mut Addresses) -> Result<(), Mem>
         ensures notes { OnOk result (out.new ≡ out.old ++ map (address_of self.old.names) (alive now self.old.subscribed.living)) }
         ensures delivered { OnOk result (AllByRecursion IsDelivered (map (address_of self.old.names) (alive now self.old.subscribed.living))) }
-        ensures raised { OnOk result (self.new.subscribed ≡ notified (expired now self.old.subscribed)) }
+        ensures raised { OnOk result (self.new.subscribed ≡ notified self.old.wrap (expired now self.old.subscribed)) }
         ensures stands { (start : Start) (commands : List Command) → StandsFor self.old start commands
             → IsSome (release_at now (scans_of start.first commands) (releases_of start.first commands))
             → OnOk result (StandsFor self.new start (Ticks now ∷ commands)) }
         ensures names { self.new.names ≡ self.old.names }
+        ensures wrap { self.new.wrap ≡ self.old.wrap }
         ensures kept { OnErr result ((self.new ≡ self.old) × (out.new ≡ out.old)) }
     {
         let all = addresses(alloc, &self.living, self.names, now)?;
         out.append(all)?;
         drop_past(&mut self.living, now);
-        raise(&mut self.living);
+        raise(&mut self.living, self.wrap);
         Ok(())
     }
 }

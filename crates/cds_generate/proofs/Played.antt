@@ -12,7 +12,7 @@ use Rattle.cds_catalog.specs.Scans.{ScanAnswer, bad_record, Accepted, BadRecord,
 use Rattle.cds_catalog.specs.declared.change.Change.TheVariants.{Modification}
 use Rattle.cds_catalog.proofs.Contents.{same_content_is}
 use Rattle.cds_commands.specs.Commands.{Command, Ends, Renews, scans_of}
-use Rattle.cds_commands.specs.Notes.{has_room, notes_of}
+use Rattle.cds_commands.specs.Notes.{has_room}
 use Rattle.cds_commands.specs.Subscriptions.{granted}
 use Rattle.cds_follow.specs.Inbox.{Requests, accepted}
 use Rattle.cds_object.specs.declared.record.Record.{Record}
@@ -24,7 +24,7 @@ use Rattle.cds_script.specs.declared.found.Found.{Found}
 use Rattle.cds_script.specs.declared.found.Found.TheVariants.{Folder as FolderFound, Track as TrackFound}
 use Rattle.cds_script.specs.declared.reply.HeldReply.TheVariants.{Named, Refusal}
 use Rattle.cds_script.specs.declared.turn.ScriptTurn.{ScriptTurn}
-use Rattle.cds_script.specs.declared.turn.ScriptTurn.TheVariants.{Folder, Track, Tag, Scan, Load, Read, Ask, First, At, Subscribe, Accept, Renew, Unsubscribe, Deliver, ReadFault}
+use Rattle.cds_script.specs.declared.turn.ScriptTurn.TheVariants.{Folder, Track, Tag, Scan, Load, Read, Ask, First, Wrap, At, Subscribe, Accept, Renew, Unsubscribe, Deliver, ReadFault}
 use Rattle.cds_generate.specs.Generated.{folders_of, reads_text, deliver_line, folder_line, track_line, tag_line, present_lines, tracks_text, library_text, scan_text, note_text, late_text, ask_text, ending_text, scanned_text, step_reads, load_reads, all_reads, text_of_step, opening, closing_text, steps_text, texts_below, script_of, generated}
 use Rattle.cds_generate.specs.History.{HistoryState, first_history, kind_of, sent_by, after_steps, step_at}
 use Rattle.cds_generate.specs.Library.{AreBelow, library_at}
@@ -62,30 +62,31 @@ module _ (path : List (List ℕ)) (sent moment grants notes changes : ℕ) (at :
       (λ older now. (refl, (ask-at path sent moment grants notes changes at found older now.0, record { until = now.1.until; runs = now.1.runs; long = now.1.long })))
   ask-plays found false = play-none (Known found)
 
-  pub said-plays : (found : List Found) (text : List ℕ) (note : ℕ) → 1 ≤ note → note ≤ sent → IsSpoken text (Deliver note) → Plays (Known found) text (Known found)
-  said-plays found text note some low spoken =
+  pub said-plays : (found : List Found) (text : List ℕ) (note : ℕ) → 1 ≤ note → note ≤ sent → notes < 1073741824 → IsSpoken text (Deliver note) → Plays (Known found) text (Known found)
+  said-plays found text note some low few spoken =
       play-line (Known found) (Known found) text (Deliver note) spoken
-      (λ older now. (
-        deliver-may path sent moment grants notes changes at found older note some low now.0,
-        (deliver-at path sent moment grants notes changes at found older note now.0, record { until = now.1.until; runs = now.1.runs; long = now.1.long }),
+      (λ older now.
+      let may = deliver-may path sent moment grants notes changes at found older note some low few now.0 in (
+        may,
+        (deliver-at path sent moment grants notes changes at found older note may now.0, record { until = now.1.until; runs = now.1.runs; long = now.1.long }),
       ))
 
-  pub deliver-plays : (found : List Found) (note : ℕ) → 1 ≤ note → note ≤ sent → note < 2 ^ 32 → Plays (Known found) (deliver_line note) (Known found)
-  deliver-plays found note some low wide = said-plays found (deliver_line note) note some low (deliver-spoken note wide)
+  pub deliver-plays : (found : List Found) (note : ℕ) → 1 ≤ note → note ≤ sent → notes < 1073741824 → note < 2 ^ 32 → Plays (Known found) (deliver_line note) (Known found)
+  deliver-plays found note some low few wide = said-plays found (deliver_line note) note some low few (deliver-spoken note wide)
 
   pub accept-plays : (found : List Found) → Plays (Known found) (codes "accept\n") (Known found)
   accept-plays found =
       play-line (Known found) (Known found) (codes "accept\n") Accept accept-spoken
       (λ older now. (refl, (accept-at path sent moment grants notes changes at found older now.0, record { until = now.1.until; runs = now.1.runs; long = now.1.long })))
 
-  pub late-plays : (found : List Found) (late : Option ℕ) → WasSent late sent → sent < 2 ^ 32 → Plays (Known found) (late_text late) (Known found)
-  late-plays found None was wide = play-none (Known found)
-  late-plays found (Some note) was wide = deliver-plays found note was.0 was.1 (let low = was.1 in omega (arith, low, wide))
+  pub late-plays : (found : List Found) (late : Option ℕ) → WasSent late sent → notes < 1073741824 → sent < 2 ^ 32 → Plays (Known found) (late_text late) (Known found)
+  late-plays found None was few wide = play-none (Known found)
+  late-plays found (Some note) was few wide = deliver-plays found note was.0 was.1 few (let low = was.1 in omega (arith, low, wide))
 
-  pub ending-plays : (late : Option ℕ) (reads : ℕ) (asks : Bool) → WasSent late sent → sent < 2 ^ 32 → Plays (Known []) (ending_text late reads asks) (Known [])
-  ending-plays late reads asks was wide =
+  pub ending-plays : (late : Option ℕ) (reads : ℕ) (asks : Bool) → WasSent late sent → notes < 1073741824 → sent < 2 ^ 32 → Plays (Known []) (ending_text late reads asks) (Known [])
+  ending-plays late reads asks was few wide =
       play-join (Known []) (Known []) (Known []) (late_text late ++ reads_text reads) (ask_text asks)
-      (play-join (Known []) (Known []) (Known []) (late_text late) (reads_text reads) (late-plays [] late was wide) (reads-play [] reads)) (ask-plays [] asks)
+      (play-join (Known []) (Known []) (Known []) (late_text late) (reads_text reads) (late-plays [] late was few wide) (reads-play [] reads)) (ask-plays [] asks)
 
   -- ---- a library
 
@@ -120,6 +121,8 @@ module _ (path : List (List ℕ)) (sent moment grants notes changes : ℕ) (at :
             clock = now.0.0.clock;
             since = ap (report.last_commented (title_of n)) now.0.0.since ∙ commented-last (title_of n) file found;
             kept = now.0.0.kept;
+            wrap = now.0.0.wrap;
+            all = (now.1, now.0.0.all);
           },
           record { until = now.0.1.until; runs = now.0.1.runs; long = now.0.1.long },
         ),
@@ -162,9 +165,9 @@ module _ (path : List (List ℕ)) (sent moment grants notes changes : ℕ) (at :
   scan-plays : (found : List Found) (records : List Record) (content : Content) (step : ℕ) → map record_of found ≡ records → bad_record records ≡ None
       → length records ≤ 10751 → changes ≤ 1000000000
       → content_at (map_of records) path ≡ Some content → (owed_at path at (Some content) ≡ [] → ⊥)
-      → moment + 200 ≤ 250 * step → 250 * step < 1800000 → notes < 4294967296
+      → moment + 200 ≤ 250 * step → 250 * step < 1800000
       → Plays (Known found) (scan_text step) (Lives path [] (sent + 1) (250 * step) grants (notes + grants) (changes + 21502) (Some content))
-  scan-plays found records content step are good few low stands owed late early many =
+  scan-plays found records content step are good few low stands owed late early =
       play-join (Known found) Waiting (Lives path [] (sent + 1) (250 * step) grants (notes + grants) (changes + 21502) (Some content)) (codes "scan\n") (codes "at " ++ decimal (250 * step) ++ codes "\n")
       (play-line (Known found) Waiting (codes "scan\n") Scan scan-spoken
       (λ older now. (refl, scan-at path sent moment grants notes changes at found older records content are good few low stands owed now)))
@@ -172,7 +175,7 @@ module _ (path : List (List ℕ)) (sent moment grants notes changes : ℕ) (at :
       (at-spoken (250 * step) (omega (arith, early)))
       (λ older now. (
         tick-may path sent moment grants notes (changes + 21502) (Some content) [] older (250 * step) (omega (arith, late)) now.0.0,
-        tick-at path sent moment grants notes (changes + 21502) (Some content) [] older (250 * step) late early many now.0 now.1,
+        tick-at path sent moment grants notes (changes + 21502) (Some content) [] older (250 * step) late early now.0 now.1,
       )))
     where
       Waiting : List ScriptTurn → Type 0
@@ -185,6 +188,8 @@ module _ (path : List (List ℕ)) (sent moment grants notes changes : ℕ) (at :
       clock = now.0.clock;
       since = now.0.since;
       kept = kept-weaker path (played older).commands sent less moment grants more notes others changes many at a b c d now.0.kept;
+      wrap = now.0.wrap;
+      all = now.0.all;
     },
     now.1,
   )
@@ -193,8 +198,8 @@ module _ (path : List (List ℕ)) (sent moment grants notes changes : ℕ) (at :
 
 -- a note of a step. With 0 there is a new subscription
 note-plays : (path : List (List ℕ)) (reads kind note sent moment grants more notes others changes : ℕ) (at : Option Content) → note ≤ sent → 1 ≤ note → note + 1 < 2 ^ 32 → grants < 64 → grants + 1 ≤ more
-    → notes + 1 ≤ others → Plays (Lives path [] sent moment grants notes changes at) (note_text reads kind note) (Lives path [] (sent_by kind note) moment more others changes at)
-note-plays path reads kind note sent moment grants more notes others changes at known some wide low room space = by (nat_eq kind 0) (nat_eq kind 1) (nat_eq kind 2)
+    → notes + 1 ≤ others → others < 1073741824 → Plays (Lives path [] sent moment grants notes changes at) (note_text reads kind note) (Lives path [] (sent_by kind note) moment more others changes at)
+note-plays path reads kind note sent moment grants more notes others changes at known some wide low room space few = by (nat_eq kind 0) (nat_eq kind 1) (nat_eq kind 2)
   where
     Before : List ScriptTurn → Type 0
     Before older = Lives path [] sent moment grants notes changes at older
@@ -203,7 +208,7 @@ note-plays path reads kind note sent moment grants more notes others changes at 
     Renewed older = Lives path [] (sent + 1) moment (grants + 1) (notes + 1) changes at older
 
     once : Plays Before (deliver_line note) Before
-    once = deliver-plays path sent moment grants notes changes at [] note some known (omega (arith, wide))
+    once = deliver-plays path sent moment grants notes changes at [] note some known (omega (arith, space, few)) (omega (arith, wide))
 
     weaken : (text : List ℕ) → Plays Before text Before → Plays Before text (Lives path [] note moment more others changes at)
     weaken text plays =
@@ -219,7 +224,7 @@ note-plays path reads kind note sent moment grants more notes others changes at 
         (lives-weaker path (sent + 1) moment (grants + 1) (notes + 1) changes at (note + 1) more others changes (omega (arith, known)) room space (omega arith))
         (play-join Before Renewed Renewed (codes "unsubscribe\nsubscribe\naccept\n" ++ deliver_line (note + 1)) (reads_text reads)
         (play-join Before Renewed Renewed (codes "unsubscribe\nsubscribe\naccept\n") (deliver_line (note + 1)) (renewed-plays path sent moment grants notes changes at low)
-        (deliver-plays path (sent + 1) moment (grants + 1) (notes + 1) changes at [] (note + 1) (omega arith) (omega (arith, known)) wide))
+        (deliver-plays path (sent + 1) moment (grants + 1) (notes + 1) changes at [] (note + 1) (omega arith) (omega (arith, known)) (omega (arith, space, few)) wide))
         (reads-play path (sent + 1) moment (grants + 1) (notes + 1) changes at [] reads))
     by false true d = weaken (deliver_line note ++ deliver_line note) (play-join Before Before Before (deliver_line note) (deliver_line note) once once)
     by false false true = weaken [] (play-none Before)
@@ -362,13 +367,13 @@ module _ (seed count : ℕ) (some : 1 ≤ count) (few : count ≤ 10000) where
         play-join (State k) (Lives path (library_found tracks) before.sent (250 * k) (k + 1) (50 * k + 1) (21502 * k) (stands k)) Scanned (library_text tracks) (scan_text (suc k))
         (library-plays path before.sent (250 * k) (k + 1) (50 * k + 1) (21502 * k) (stands k) (1 + 202 * k + 202) tracks few-tracks (omega (arith, low)) versions)
         (scan-plays path before.sent (250 * k) (k + 1) (50 * k + 1) (21502 * k) (stands k) (library_found tracks) (map record_of (library_found tracks)) now (suc k) refl
-        (all-good tracks few-tracks) (all-few tracks few-tracks) (omega (arith, low)) stands-now changed (omega arith) (omega (arith, low)) (omega (arith, low)))
+        (all-good tracks few-tracks) (all-few tracks few-tracks) (omega (arith, low)) stands-now changed (omega arith) (omega (arith, low)))
 
     noted-plays : Plays Scanned (note_text (load_reads (length tracks)) kind (before.sent + 1)) (Lives path [] (sent_by kind (before.sent + 1)) (250 * suc k) (k + 2) (50 * suc k + 1) (21502 * k + 21502) (Some now))
     noted-plays =
         let wide = wide-sent k (omega (arith, low)) in
         note-plays path (load_reads (length tracks)) kind (before.sent + 1) (before.sent + 1) (250 * suc k) (k + 1) (k + 2) (50 * k + 1 + (k + 1)) (50 * suc k + 1) (21502 * k + 21502) (Some now)
-        (omega arith) (omega arith) (omega (arith, wide)) (omega (arith, low)) (omega arith) (omega (arith, low))
+        (omega arith) (omega arith) (omega (arith, wide)) (omega (arith, low)) (omega arith) (omega (arith, low)) (omega (arith, low))
 
     sent-more : before.sent ≤ sent_by kind (before.sent + 1)
     sent-more = by (nat_eq kind 0)
@@ -399,7 +404,7 @@ module _ (seed count : ℕ) (some : 1 ≤ count) (few : count ≤ 10000) where
         (play-join (State k) Scanned (Lives path [] (sent_by kind (before.sent + 1)) (250 * suc k) (k + 2) (50 * suc k + 1) (21502 * k + 21502) (Some now))
         (library_text tracks ++ scan_text (suc k)) (note_text (load_reads (length tracks)) kind (before.sent + 1)) scanned-plays noted-plays)
         (ending-plays path (sent_by kind (before.sent + 1)) (250 * suc k) (k + 2) (50 * suc k + 1) (21502 * k + 21502) (Some now) before.late (step_reads (suc k) (length tracks)) (nat_eq (suc k % 10) 0) was-sent
-        sent-wide)
+        (omega (arith, low)) sent-wide)
 
   state-plays : (k : ℕ) → k < 40 → Plays (State k) (text_of_step (k + 1) (after k)) (State (suc k))
   unfolding after_steps
@@ -430,7 +435,7 @@ module _ (seed count : ℕ) (some : 1 ≤ count) (few : count ≤ 10000) where
       play-line (λ older. older ≡ []) Start (codes "load\n") Load load-spoken
       (λ older none. (
         refl,
-        load-at path 0 0 0 0 0 None [] older (subst Start (sym none) (record { first = refl; clock = refl; since = refl; kept = kept-first path })),
+        load-at path 0 0 0 0 0 None [] older (subst Start (sym none) (record { first = refl; clock = refl; since = refl; kept = kept-first path; wrap = refl; all = tt })),
       ))
 
   opening-plays : Plays (λ older. older ≡ []) opening (State 0)
@@ -443,7 +448,7 @@ module _ (seed count : ℕ) (some : 1 ≤ count) (few : count ≤ 10000) where
       (play-join Start Subscribed Subscribed (codes "subscribe\n") (codes "accept\n")
       (play-line Start Subscribed (codes "subscribe\n") Subscribe subscribe-spoken (λ older now. (refl, subscribe-at path 0 0 0 0 0 None [] older (omega arith) now)))
       (accept-plays path 1 0 1 1 0 None []))
-      (said-plays path 1 0 1 1 0 None [] (codes "deliver 1\n") 1 (omega arith) (omega arith) deliver_first-spoken))
+      (said-plays path 1 0 1 1 0 None [] (codes "deliver 1\n") 1 (omega arith) (omega arith) (omega arith) deliver_first-spoken))
 
   script-plays : Plays (λ older. older ≡ []) (generated seed count) (State 40)
   unfolding generated script_of
@@ -452,7 +457,7 @@ module _ (seed count : ℕ) (some : 1 ≤ count) (few : count ≤ 10000) where
       (play-join (λ older. older ≡ []) (State 0) (State 40) opening (steps_text 40 (first_history seed count)) opening-plays
       (play-texts State 40 (λ (done : ℕ). text_of_step (done + 1) (after done)) state-plays))
       (ending-plays path (after 40).sent (250 * 40) (40 + 1) (50 * 40 + 1) (21502 * 40) (stands 40) (after 40).late (all_reads (length (after 40).library.tracks)) true (late-sent 40 seed count)
-      (let wide = wide-sent 40 (omega arith) in omega (arith, wide)))
+      (omega arith) (let wide = wide-sent 40 (omega arith) in omega (arith, wide)))
 
 -- ---- few subscriptions
 
@@ -463,17 +468,17 @@ module _ (older : List ScriptTurn) where
   scan-grants (TooMany objects) records commands = omega arith
   scan-grants (NoNumbers needed) records commands = omega arith
 
-  end-grants : (name : Option ℕ) (first now : ℕ) (commands : List Command) → granted commands ≤ granted (given_up name first now commands)
-  end-grants None first now commands = omega arith
-  end-grants (Some name) first now commands = by (lives name first now commands)
+  end-grants : (name : Option ℕ) (now : ℕ) (commands : List Command) → granted commands ≤ granted (given_up name now commands)
+  end-grants None now commands = omega arith
+  end-grants (Some name) now commands = by (lives name now commands)
     where
       by : (b : Bool) → granted commands ≤ granted (cond b (Ends now name ∷ commands) commands)
       by true = omega arith
       by false = omega arith
 
-  renew-grants : (name : Option ℕ) (first now : ℕ) (commands : List Command) → granted commands ≤ granted (with_renewal name first now commands)
-  renew-grants None first now commands = omega arith
-  renew-grants (Some name) first now commands = by (lives name first now commands)
+  renew-grants : (name : Option ℕ) (now : ℕ) (commands : List Command) → granted commands ≤ granted (with_renewal name now commands)
+  renew-grants None now commands = omega arith
+  renew-grants (Some name) now commands = by (lives name now commands)
     where
       by : (b : Bool) → granted commands ≤ granted (cond b (Renews now name granted_seconds ∷ commands) commands)
       by true = omega arith
@@ -488,19 +493,20 @@ module _ (older : List ScriptTurn) where
   turn-grants Read = omega arith
   turn-grants Ask = omega arith
   turn-grants (First number) = omega arith
+  turn-grants (Wrap number) = omega arith
   turn-grants (At moment) = omega arith
-  turn-grants Subscribe = by (has_room (clock_of older) (played older).commands (notes_of (first_of older) (played older).commands))
+  turn-grants Subscribe = by (has_room (clock_of older) (played older).commands)
     where
-      by : (b : Bool) → granted (played older).commands ≤ granted (cond {A = report.Played} b (record {
+      by : (b : Bool) → granted (played older).commands ≤ granted (cond {A = report.Played} b (record (played older) {
         commands = grant_at (clock_of older) ∷ (played older).commands;
         replica = Requests ∷ (played older).replica;
         reply = Named (granted (played older).commands + 1);
-      }) (record { commands = (played older).commands; replica = Requests ∷ (played older).replica; reply = Refusal })).commands
+      }) (record (played older) { replica = Requests ∷ (played older).replica; reply = Refusal })).commands
       by true = omega arith
       by false = omega arith
   turn-grants Accept = omega arith
-  turn-grants Renew = renew-grants (accepted (played older).replica) (first_of older) (clock_of older) (played older).commands
-  turn-grants Unsubscribe = end-grants (accepted (played older).replica) (first_of older) (clock_of older) (played older).commands
+  turn-grants Renew = renew-grants (accepted (played older).replica) (clock_of older) (played older).commands
+  turn-grants Unsubscribe = end-grants (accepted (played older).replica) (clock_of older) (played older).commands
   turn-grants (Deliver note) = omega arith
   turn-grants ReadFault = omega arith
 
@@ -522,8 +528,7 @@ are-played seed count some few =
     record {
       well = played-well (State seed count some few 40) (generated seed count) plays fits;
       few = λ newer now.
-          let names = names-few now (played (drop newer (script_turns (generated seed count)))).commands
-          (notes_of (first_of (drop newer (script_turns (generated seed count)))) (played (drop newer (script_turns (generated seed count)))).commands) in
+          let names = names-few now (played (drop newer (script_turns (generated seed count)))).commands in
           let less = dropped-grants newer (script_turns (generated seed count)) in
           omega (arith, names, less, last);
     }

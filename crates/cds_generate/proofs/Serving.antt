@@ -1,5 +1,5 @@
 -- What the commands of a generated script lead to: scans are accepted, each tick sends a note, and few subscriptions are granted.
-use Rattle.std.proofs.Common.{◌≡◌, ◌+◌, ◌*◌, ◌<◌, ◌≤◌, ℕ, suc, Bool, true, false, cond, ◌&&◌, nat_eq, nat_lt, List, [], ◌∷◌, reverse, filter, length, Option, Some, None, is_some, refl, sym, ap, subst, ◌∙◌, arith, length-append, eq-eqb}
+use Rattle.std.proofs.Common.{◌≡◌, ◌+◌, ◌*◌, ◌<◌, ◌≤◌, ℕ, suc, Bool, true, false, cond, nat_lt, List, [], ◌∷◌, reverse, filter, length, Option, Some, None, is_some, refl, sym, ap, subst, ◌∙◌, arith, length-append, eq-eqb}
 use Rattle.std.specs.List.{filter_map, cons_option, range_with_len}
 use Rattle.std.proofs.lemmas.Bool.{and_from, lt-ltb, le-leb, ltb-true}
 use Rattle.std.proofs.lemmas.List.{length-map, length-reverse}
@@ -18,7 +18,7 @@ use Rattle.cds_catalog.proofs.Maps.{latest_is_library}
 use Rattle.cds_commands.specs.Commands.{Command, Scans, Ends, Ticks, scans_of}
 use Rattle.cds_commands.specs.Releases.{Release, release_size, released_to, scan_end_within, may_release, release_at, and_release, releases_of}
 use Rattle.cds_commands.specs.Subscriptions.{granted, end_after, runs_until, unless_past, is_alive}
-use Rattle.cds_commands.specs.Notes.{Note, next_seq_of, seq_limit, alive_names, has_room, released_note, released_notes, notes_of, sent_by}
+use Rattle.cds_commands.specs.Notes.{alive_names, has_room, released_note, released_notes, notes_of, sent_by}
 use Rattle.cds_commands.proofs.Among.{Among, among-filter, among-row}
 use Rattle.cds_commands.proofs.Lives.{runs-granted}
 use Rattle.cds_commands.proofs.Sent.{first-is, released-stood, stood-below}
@@ -47,9 +47,9 @@ among-some x [] a = absurd a
 among-some x (y ∷ ys) a = omega arith
 
 -- as many subscriptions live at most as were granted
-pub names-few : (now : ℕ) (commands : List Command) (sent : List Note) → length (alive_names now commands sent) ≤ granted commands
-names-few now commands sent =
-    let less = filter-length (λ name. is_alive name now commands && nat_lt (next_seq_of name sent) seq_limit) (range_with_len 1 (granted commands)) in
+pub names-few : (now : ℕ) (commands : List Command) → length (alive_names now commands) ≤ granted commands
+names-few now commands =
+    let less = filter-length (λ name. is_alive name now commands) (range_with_len 1 (granted commands)) in
     let all = length-range_with_len 1 (granted commands) in
     omega (arith, less, all)
 
@@ -174,11 +174,11 @@ module _ (path : List (List ℕ)) where
 
     -- ---- subscriptions
 
-    alive-few : (now : ℕ) → length (alive_names now commands (notes_of 0 commands)) ≤ grants
-    alive-few now = let few = names-few now commands (notes_of 0 commands) in omega (arith, few, kept.granted)
+    alive-few : (now : ℕ) → length (alive_names now commands) ≤ grants
+    alive-few now = let few = names-few now commands in omega (arith, few, kept.granted)
 
-    pub room : (now : ℕ) → grants < 64 → has_room now commands (notes_of 0 commands) ≡ true
-    room now low = let few = alive-few now in lt-ltb (length (alive_names now commands (notes_of 0 commands))) 64 (omega (arith, few, low))
+    pub room : (now : ℕ) → grants < 64 → has_room now commands ≡ true
+    room now low = let few = alive-few now in lt-ltb (length (alive_names now commands)) 64 (omega (arith, few, low))
 
     pub kept-grant : (now : ℕ) → IsKept path (grant_at now ∷ commands) (sent + 1) moment (grants + 1) (notes + 1) changes at × IsAlive (grant_at now ∷ commands)
     kept-grant now =
@@ -216,7 +216,7 @@ module _ (path : List (List ℕ)) where
 
     -- ---- a tick
 
-    module _ (now : ℕ) (alive : IsAlive commands) (waits : Waits commands) (late : moment + 200 ≤ now) (early : now < 1800000) (many : notes < 4294967296) where
+    module _ (now : ℕ) (alive : IsAlive commands) (waits : Waits commands) (late : moment + 200 ≤ now) (early : now < 1800000) where
       abbrev releases : List Release
       releases = releases_of 0 commands
 
@@ -239,20 +239,16 @@ module _ (path : List (List ℕ)) where
           let long = alive.long in
           ap (λ (o : Option ℕ). is_some (unless_past now o)) alive.runs ∙ ap (λ b. is_some (cond b (Some alive.until) None)) (lt-ltb now alive.until (omega (arith, long, early)))
 
-      one-lives : 1 ≤ length (alive_names now commands (notes_of 0 commands))
+      one-lives : 1 ≤ length (alive_names now commands)
       one-lives =
-          let low = filter-length (λ (note : Note). nat_eq note.name (granted commands)) (notes_of 0 commands) in
-          let few = kept.few in
-          among-some (granted commands) (alive_names now commands (notes_of 0 commands))
-          (among-filter (λ name. is_alive name now commands && nat_lt (next_seq_of name (notes_of 0 commands)) seq_limit) (range_with_len 1 (granted commands)) (granted commands)
-          (among-row 1 (granted commands) (granted commands) (some-granted commands alive) (omega arith))
-          (and_from (is_alive (granted commands) now commands) (nat_lt (next_seq_of (granted commands) (notes_of 0 commands)) seq_limit) lives
-          (lt-ltb (next_seq_of (granted commands) (notes_of 0 commands)) seq_limit (omega (arith, low, few, many)))))
+          among-some (granted commands) (alive_names now commands)
+          (among-filter (λ name. is_alive name now commands) (range_with_len 1 (granted commands)) (granted commands)
+          (among-row 1 (granted commands) (granted commands) (some-granted commands alive) (omega arith)) lives)
 
-      told : length (sent_by 0 commands (notes_of 0 commands) (Ticks now)) ≡ length (alive_names now commands (notes_of 0 commands))
+      told : length (sent_by 0 commands (notes_of 0 commands) (Ticks now)) ≡ length (alive_names now commands)
       told =
-          ap (λ (o : Option Release). length (released_notes history o (notes_of 0 commands) (alive_names now commands (notes_of 0 commands)))) releases-now
-          ∙ length-map (alive_names now commands (notes_of 0 commands)) (released_note history release (notes_of 0 commands))
+          ap (λ (o : Option Release). length (released_notes history o (notes_of 0 commands) (alive_names now commands))) releases-now
+          ∙ length-map (alive_names now commands) (released_note history release (notes_of 0 commands))
 
       pub kept-tick : IsKept path (Ticks now ∷ commands) (sent + 1) now grants (notes + grants) changes at × IsAlive (Ticks now ∷ commands)
       kept-tick =

@@ -2,9 +2,9 @@
 use Rattle.std.specs.Prelude.{◌≡◌, ◌≤◌, ℕ, List, [], length, drop}
 use Rattle.std.specs.List.{AllByRecursion}
 use Rattle.cds_script.specs.Lines.{lines_of, ended_lines, line_limit, script_limit}
-use Rattle.cds_commands.specs.Notes.{alive_names, notes_of}
+use Rattle.cds_commands.specs.Notes.{alive_names}
 use Rattle.cds_script.specs.Played.{script_stop, script_turns}
-use Rattle.cds_script.specs.Report.{first_of, played}
+use Rattle.cds_script.specs.Report.{played}
 use Rattle.cds_script.specs.Script.{meaning_of}
 use Rattle.cds_script.specs.declared.turn.Meaning.TheVariants.{Means}
 use Rattle.cds_script.specs.declared.turn.ScriptTurn.{ScriptTurn}
@@ -27,7 +27,7 @@ scripts_are_short = (seed count : ℕ) → 1 ≤ count → count ≤ 10000 → l
 
 -- whatever the moment, at most 64 subscriptions live after turns
 abbrev pub HasFew : List ScriptTurn → Type 0
-HasFew turns = (now : ℕ) → length (alive_names now (played turns).commands (notes_of (first_of turns) (played turns).commands)) ≤ 64
+HasFew turns = (now : ℕ) → length (alive_names now (played turns).commands) ≤ 64
 
 -- a script is played to its end, with status 0: each line is one of the language where it stands, and each note was sent when it is
 -- delivered. After any of its turns at most 64 subscriptions live

@@ -1,7 +1,7 @@
 -- What reading a note's body and its fields answers.
 use Rattle.std.proofs.Common.{◌≡◌, ◌≢◌, ℕ, Bool, true, false, cond, ◌&&◌, Option, Some, None, is_some, Result, Ok, Err, List, [], ◌∷◌, codes, refl, sym, ap, ◌∙◌, subst, append-nil, true≢false}
 use Rattle.std.specs.Prelude.{option_and_then}
-use Rattle.cds_commands.specs.Notes.{Note}
+use Rattle.cds_commands.specs.Wire.{WireNote}
 use Rattle.cds_object.specs.declared.event.Event.{Event}
 use Rattle.cds_http.specs.declared.message.Message.{Message}
 use Rattle.cds_markup.specs.declared.error.MarkupError.{MarkupError}
@@ -131,13 +131,13 @@ said-once body n m es fs s t =
 heading-same : (a b : Heading) (r : Result Heading NoteError) → r ≡ Ok a → r ≡ Ok b → a ≡ b
 heading-same a b r e f = cc
 
-note-same : (message : Message) (a b : Note) → IsNote message a → IsNote message b → a ≡ b
+note-same : (message : Message) (a b : WireNote) → IsNote message a → IsNote message b → a ≡ b
 note-same message a b h k =
     let heading = heading-same (record { sid = record { 0 = a.name }; seq = a.seq }) (record { sid = record { 0 = b.name }; seq = b.seq }) (heading_of message) h.heading k.heading in
     let said = said-once message.body a.number b.number a.events b.events h.body k.body in
     λ i. record { name = (heading i).sid.0; seq = (heading i).seq; number = said.numbers i; events = said.lists i }
 
-pub one-answer : (message : Message) (one other : Result Note NoteError) → Answers message one → Answers message other → one ≢ Err Mem → other ≢ Err Mem → one ≡ other
+pub one-answer : (message : Message) (one other : Result WireNote NoteError) → Answers message one → Answers message other → one ≢ Err Mem → other ≢ Err Mem → one ≡ other
 one-answer message (Ok a) (Ok b) h k p q = ap Ok (note-same message a b h k)
 one-answer message (Ok a) (Err Mem) h k p q = absurd (q refl)
 one-answer message (Ok a) (Err Head) h k p q = absurd (ok≢err _ Head (heading_of message) h.heading k)

@@ -4,7 +4,7 @@ use Rattle.std.specs.List.{AllByRecursion}
 use Rattle.url.specs.Parts.{Parts, IsValid}
 use Rattle.cds_base.specs.declared.limits.TheConstants.{INPUT_LIMIT}
 use Rattle.cds_catalog.specs.History.{History}
-use Rattle.cds_commands.specs.Notes.{Note}
+use Rattle.cds_commands.specs.Wire.{WireNote}
 use Rattle.cds_commands.specs.Releases.{Release, release_size, released_containers}
 use Rattle.cds_object.specs.declared.event.Event.{Event}
 use Rattle.cds_http.specs.declared.message.Message.{Message}
@@ -86,5 +86,5 @@ ReleasedBodiesAreShort =
 -- a message has one answer, unless memory ran out
 abbrev pub OneAnswer : Type 0
 OneAnswer =
-    (message : Message) (one other : Result Note NoteError) → Answers message one → Answers message other
+    (message : Message) (one other : Result WireNote NoteError) → Answers message one → Answers message other
     → one ≢ Err Mem → other ≢ Err Mem → one ≡ other

@@ -4,7 +4,7 @@
 use Rattle.std.specs.Prelude.{◌≡◌, ◌^◌, ℕ, Bool, false, ◌&&◌, List, codes, bytes_eq, Option, Some, None, is_some, option_map, option_and_then, Result, Ok, Err, ⊤, if◌then◌else◌}
 use Rattle.std.specs.List.{flat_map}
 use Rattle.cds_base.specs.Number.{number_below}
-use Rattle.cds_commands.specs.Notes.{Note}
+use Rattle.cds_commands.specs.Wire.{WireNote}
 use Rattle.cds_object.specs.declared.event.Event.{Event}
 use Rattle.cds_http.specs.declared.message.Message.{Message}
 use Rattle.cds_markup.specs.declared.element.Node.{Node}
@@ -98,7 +98,7 @@ pub record Says (body : List ℕ) (number : ℕ) (events : List Event) : Type 0 
 
 -- ---- the note
 
-pub record IsNote (message : Message) (note : Note) : Type 0 where
+pub record IsNote (message : Message) (note : WireNote) : Type 0 where
   pub heading : heading_of message ≡ Ok (record { sid = record { 0 = note.name }; seq = note.seq })
   pub body : Says message.body note.number note.events
 
@@ -109,7 +109,7 @@ pub record HasNoBody (message : Message) : Type 0 where
   pub none : (number : ℕ) (events : List Event) → Says message.body number events → ⊥
 
 -- what is answered to a message. If memory runs out, that says nothing of it
-abbrev pub Answers : Message → Result Note NoteError → Type 0
+abbrev pub Answers : Message → Result WireNote NoteError → Type 0
 Answers message (Ok note) = IsNote message note
 Answers message (Err Mem) = ⊤
 Answers message (Err Head) = heading_of message ≡ Err Head

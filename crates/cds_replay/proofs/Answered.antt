@@ -24,17 +24,17 @@ written-as (Ok done) new old a b same written = written ∙ ap (λ v. old ++ v) 
 written-as (Err e) new old a b same written = tt
 
 -- what a scan was answered is what the scan writes
-pub scan-written : (first : ℕ) (commands : List Command) (records : List Record) (answer : Result Span ApplyError) (old new : Serving) →
-    Scanned (script_start first) commands records answer old new → was_answered answer ≡ true →
+pub scan-written : (wrap first : ℕ) (commands : List Command) (records : List Record) (answer : Result Span ApplyError) (old new : Serving) →
+    Scanned (script_start wrap first) commands records answer old new → was_answered answer ≡ true →
     scan_line answer
     ≡ scan_text (end_of (scans_of first (scanned (scan_answer (scans_of first commands) records) records commands))) (scan_answer (scans_of first commands) records)
-scan-written first commands records (Ok span) old new applied told =
+scan-written wrap first commands records (Ok span) old new applied told =
     ap (λ (s : Span). numbered_line (codes "scan ") s.to) applied.2
     ∙ sym (ap (λ a. scan_text (end_of (scans_of first (scanned a records commands))) a) applied.0)
-scan-written first commands records (Err (BadRecords line)) old new applied told =
+scan-written wrap first commands records (Err (BadRecords line)) old new applied told =
     sym (ap (λ a. scan_text (end_of (scans_of first (scanned a records commands))) a) applied.0)
-scan-written first commands records (Err (Full objects)) old new applied told =
+scan-written wrap first commands records (Err (Full objects)) old new applied told =
     sym (ap (λ a. scan_text (end_of (scans_of first (scanned a records commands))) a) applied.0)
-scan-written first commands records (Err (Spent needed)) old new applied told =
+scan-written wrap first commands records (Err (Spent needed)) old new applied told =
     sym (ap (λ a. scan_text (end_of (scans_of first (scanned a records commands))) a) applied.0)
-scan-written first commands records (Err NoRoom) old new applied told = absurd (cc)
+scan-written wrap first commands records (Err NoRoom) old new applied told = absurd (cc)

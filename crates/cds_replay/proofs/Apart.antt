@@ -5,13 +5,14 @@ use Rattle.cds_commands.specs.Names.{names_of}
 use Rattle.cds_follow.specs.Inbox.{ReplicaTurn, Begins, Shows, Requests, Accepts, Refuses, Delivers, accepted, is_out}
 use Rattle.cds_follow.specs.Named.{named}
 use Rattle.cds_follow.proofs.Named.{TellAllApart, SameUnder, names-same}
+use Rattle.cds_commands.specs.Places.{last_seq}
 use Rattle.cds_replay.specs.Session.{script_start, script_names}
 
 plus-apart : (k m n : ℕ) → k + m ≡ k + n → m ≡ n
 plus-apart k m n e = omega (arith, e)
 
 pub names-apart : TellAllApart script_names
-names-apart m n e = plus-apart (names_of (script_start 0)) m n e
+names-apart m n e = plus-apart (names_of (script_start last_seq 0)) m n e
 
 pub knows-same : (turns : List ReplicaTurn) → SameUnder script_names turns
 knows-same turns = names-same script_names turns names-apart

@@ -164,10 +164,10 @@ pub asked-message : AsksAreRead → (ask : Ask) (request : List ℕ) → IsInRan
 asked-message read ask request fits sent = ((asked read ask fits).message, asked-whole read ask fits request sent)
 
 -- what the server replies to its message
-pub ask-replied : AsksAreRead → what_is_asked_is_answered → (first : ℕ) (commands : List Command) (now : ℕ) (ask : Ask) (m : Message) (text : List ℕ) →
+pub ask-replied : AsksAreRead → what_is_asked_is_answered → (wrap first : ℕ) (commands : List Command) (now : ℕ) (ask : Ask) (m : Message) (text : List ℕ) →
     IsPlainMoment (moment_after script_token first commands) → IsInRange ask → Decides false Request (written_action (action_of ask) control_url) (Whole m []) →
-    IsReply (script_start first) commands now m text ↔ (text ≡ server_reply (moment_after script_token first commands) ask)
-ask-replied read answered first commands now ask m text plain fits whole = (
+    IsReply (script_start wrap first) commands now m text ↔ (text ≡ server_reply (moment_after script_token first commands) ask)
+ask-replied read answered wrap first commands now ask m text plain fits whole = (
   λ reply. law.0 reply ∙ ap (λ given. written_answer (action_of ask) 4 given None) says,
   λ is. law.1 (is ∙ ap (λ given. written_answer (action_of ask) 4 given None) (sym says)),
 )
@@ -178,36 +178,36 @@ ask-replied read answered first commands now ask m text plain fits whole = (
     same : m ≡ r.message
     same = one-message Request (written_action (action_of ask) control_url) m r.message whole (asked-whole read ask fits (written_action (action_of ask) control_url) refl)
 
-    law : IsReply (script_start first) commands now m text
-        ↔ (text ≡ written_answer (action_of ask) 4 (answer_to (published_by (script_start first) commands) (codes "127.0.0.1:49152") (action_of ask)) None)
+    law : IsReply (script_start wrap first) commands now m text
+        ↔ (text ≡ written_answer (action_of ask) 4 (answer_to (published_by (script_start wrap first) commands) (codes "127.0.0.1:49152") (action_of ask)) None)
     law =
-        answered (script_start first) commands now m (codes "127.0.0.1:49152") (record { action = action_of ask; version = 4 }) text
+        answered (script_start wrap first) commands now m (codes "127.0.0.1:49152") (record { action = action_of ask; version = 4 }) text
         (ap route same ∙ control-way r.message r.start (r.host ∙ ap Some control-host))
         (subst (λ n. AnswersAsk n (Ok (record { action = action_of ask; version = 4 }))) (sym same) r.asks)
 
-    says : answer_to (published_by (script_start first) commands) (codes "127.0.0.1:49152") (action_of ask)
+    says : answer_to (published_by (script_start wrap first) commands) (codes "127.0.0.1:49152") (action_of ask)
         ≡ answer_saying script_base (reply_to (moment_after script_token first commands) ask)
-    says = server-says first commands ask plain fits
+    says = server-says wrap first commands ask plain fits
 
 -- so to the bytes of its request
-replied : AsksAreRead → what_is_asked_is_answered → (first : ℕ) (commands : List Command) (now : ℕ) (ask : Ask) (request : List ℕ) (m : Message) (text : List ℕ) →
+replied : AsksAreRead → what_is_asked_is_answered → (wrap first : ℕ) (commands : List Command) (now : ℕ) (ask : Ask) (request : List ℕ) (m : Message) (text : List ℕ) →
     IsPlainMoment (moment_after script_token first commands) → IsInRange ask → request ≡ written_action (action_of ask) control_url →
     ((r : Message) → Decides false Request request (Whole r []) → m ≡ r) →
-    IsReply (script_start first) commands now m text → text ≡ server_reply (moment_after script_token first commands) ask
-replied read answered first commands now ask request m text plain fits sent is reply =
-    (ask-replied read answered first commands now ask m text plain fits (subst (λ bytes. Decides false Request bytes (Whole m [])) sent whole)).0 reply
+    IsReply (script_start wrap first) commands now m text → text ≡ server_reply (moment_after script_token first commands) ask
+replied read answered wrap first commands now ask request m text plain fits sent is reply =
+    (ask-replied read answered wrap first commands now ask m text plain fits (subst (λ bytes. Decides false Request bytes (Whole m [])) sent whole)).0 reply
   where
     whole : Decides false Request request (Whole m [])
     whole =
         subst (λ (n : Message). Decides false Request request (Whole n [])) (sym (is (asked read ask fits).message (asked-whole read ask fits request sent)))
         (asked-whole read ask fits request sent)
 
-pub reply-is : AsksAreRead → what_is_asked_is_answered → (first : ℕ) (commands : List Command) (now : ℕ) (ask : Ask) (request : List ℕ) (m : Message) (was out : List ℕ) →
+pub reply-is : AsksAreRead → what_is_asked_is_answered → (wrap first : ℕ) (commands : List Command) (now : ℕ) (ask : Ask) (request : List ℕ) (m : Message) (was out : List ℕ) →
     IsPlainMoment (moment_after script_token first commands) → IsInRange ask → request ≡ written_action (action_of ask) control_url →
-    ((r : Message) → Decides false Request request (Whole r []) → m ≡ r) → was ≡ [] → Replied (script_start first) commands now m was out →
+    ((r : Message) → Decides false Request request (Whole r []) → m ≡ r) → was ≡ [] → Replied (script_start wrap first) commands now m was out →
     out ≡ server_reply (moment_after script_token first commands) ask
-reply-is read answered first commands now ask request m was out plain fits sent is empty reply =
-    reply.2 ∙ ap (λ front. front ++ reply.0) empty ∙ replied read answered first commands now ask request m reply.0 plain fits sent is reply.1
+reply-is read answered wrap first commands now ask request m was out plain fits sent is empty reply =
+    reply.2 ∙ ap (λ front. front ++ reply.0) empty ∙ replied read answered wrap first commands now ask request m reply.0 plain fits sent is reply.1
 
 -- the message of an ask asks of no subscription
 pub asked-unasked : AsksAreRead → (ask : Ask) (request : List ℕ) (m : Message) → IsInRange ask → request ≡ written_action (action_of ask) control_url →

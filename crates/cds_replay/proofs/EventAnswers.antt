@@ -21,7 +21,7 @@ use Rattle.cds_http.specs.Known.{Whole}
 use Rattle.cds_http.specs.Written.{line_break, field_line, field_lines, last_lines, request_line, request_text}
 use Rattle.cds_commands.specs.Commands.{Command, Start, Renews, Ends, scans_of}
 use Rattle.cds_commands.specs.Names.{names_of}
-use Rattle.cds_commands.specs.Notes.{alive_names, first_note, has_room, notes_of}
+use Rattle.cds_commands.specs.Notes.{alive_names, first_note, has_room}
 use Rattle.cds_commands.specs.Subscriptions.{granted, subscription_limit}
 use Rattle.cds_gena.specs.SidText.{sid_text}
 use Rattle.cds_gena.specs.Subscribed.{if_full, last_number, number_of}
@@ -42,6 +42,7 @@ use Rattle.cds_server.proofs.Stands.{asks-way}
 use Rattle.cds_script.specs.Report.{lives}
 use Rattle.cds_script.specs.Script.{grant_at, granted_seconds, script_callback}
 use Rattle.cds_replay.specs.Events.{HasStatus, IsAnswered, IsAsked, IsMessage, event_url, callback_url}
+use Rattle.cds_commands.specs.Places.{last_seq}
 use Rattle.cds_replay.specs.Session.{script_names, script_start}
 use Rattle.cds_replay.proofs.Controlled.{one-message}
 use Rattle.cds_replay.proofs.EventUrls.{event-goes, event-host, event-target, event-valid, callback-goes, callback-text, callback-valid}
@@ -161,7 +162,7 @@ asked-by (Err memory) start commands now request old reply bytes first after non
 -- where its message asks of a subscription at the target of events, and this comes of it
 module _ (start : Start) (commands : List Command) (now : ℕ) (request old new : List ℕ) (note : Option FirstNote) (after : Serving) (method : List ℕ) (gena : Gena)
     (come : Outcome) (asked : AreAsked false request method event_url gena []) (events : asks_events (of_request method (codes "/event")) ≡ true)
-    (comes : outcome_of (refusal_of start.first now commands) (living_number start now commands) (Ok gena) ≡ come)
+    (comes : outcome_of (refusal_of now commands) (living_number start now commands) (Ok gena) ≡ come)
     (answered : IsAnswered start commands now request old new note after) where
   abbrev m : Message
   m = asked.message
@@ -173,7 +174,7 @@ module _ (start : Start) (commands : List Command) (now : ℕ) (request old new 
   way = asks-way m (ap asks_events (asked.start ∙ ap (of_request method) event-target) ∙ events)
 
   is : outcome start commands now m ≡ come
-  is = ap (outcome_of (refusal_of start.first now commands) (living_number start now commands)) asked.asks ∙ comes
+  is = ap (outcome_of (refusal_of now commands) (living_number start now commands)) asked.asks ∙ comes
 
   replied-so : new ≡ old ++ outcome_reply (names_of start) (granted commands) come
   replied-so =
@@ -228,35 +229,35 @@ full-or live true e = ap (λ t. granting (cond t None (Some (Full live))) (seria
 full-or live false e = ap (λ t. granting (cond t None (Some (Full live))) (serialize callback_url) 1800) e
 
 pub subscribe-comes : (first now : ℕ) (commands : List Command) → granted commands < last_number → (number : ℕ → Option ℕ) →
-    outcome_of (refusal_of first now commands) number (Ok (Subscribe callback_url 1800)) ≡ grant_of (has_room now commands (notes_of first commands))
+    outcome_of (refusal_of now commands) number (Ok (Subscribe callback_url 1800)) ≡ grant_of (has_room now commands)
 subscribe-comes first now commands left number =
-    ap (λ b. granting (cond b (Some Spent) (if_full (length (alive_names now commands (notes_of first commands))))) (serialize callback_url) 1800)
+    ap (λ b. granting (cond b (Some Spent) (if_full (length (alive_names now commands)))) (serialize callback_url) 1800)
     (ne_eqb (granted commands) last_number (λ e. omega (arith, e, left)))
-    ∙ full-or (length (alive_names now commands (notes_of first commands))) (has_room now commands (notes_of first commands)) refl
+    ∙ full-or (length (alive_names now commands)) (has_room now commands) refl
 
 -- by whether there is room: the name is granted, and the first note sent; or nothing is done
-abbrev pub IsSubscribed : Bool → ℕ → ℕ → List Command → List ℕ → Option FirstNote → Serving → Type 0
-IsSubscribed true first now commands reply note after =
+abbrev pub IsSubscribed : Bool → ℕ → ℕ → ℕ → List Command → List ℕ → Option FirstNote → Serving → Type 0
+IsSubscribed true wrap first now commands reply note after =
     (reply ≡ lease_reply (script_names (granted commands + 1)) granted_seconds)
     × (note ≡ Some (noted (script_names (granted commands + 1)) script_callback (first_note (granted commands + 1) (end_of (scans_of first commands)))))
-    × StandsFor after (script_start first) (grant_at now ∷ commands)
-IsSubscribed false first now commands reply note after = (reply ≡ empty_reply 503) × (note ≡ None) × StandsFor after (script_start first) commands
+    × StandsFor after (script_start wrap first) (grant_at now ∷ commands)
+IsSubscribed false wrap first now commands reply note after = (reply ≡ empty_reply 503) × (note ≡ None) × StandsFor after (script_start wrap first) commands
 
-pub subscribe-answered : (first now : ℕ) (commands : List Command) (reply : List ℕ) (note : Option FirstNote) (after : Serving) → granted commands + 1 < 2 ^ 32 →
-    IsAnswered (script_start first) commands now (subscribe_text event_url callback_url) [] reply note after →
-    IsSubscribed (has_room now commands (notes_of first commands)) first now commands reply note after
-subscribe-answered first now commands reply note after few answered = by (has_room now commands (notes_of first commands)) refl
+pub subscribe-answered : (wrap first now : ℕ) (commands : List Command) (reply : List ℕ) (note : Option FirstNote) (after : Serving) → granted commands + 1 < 2 ^ 32 →
+    IsAnswered (script_start wrap first) commands now (subscribe_text event_url callback_url) [] reply note after →
+    IsSubscribed (has_room now commands) wrap first now commands reply note after
+subscribe-answered wrap first now commands reply note after few answered = by (has_room now commands) refl
   where
-    comes : (b : Bool) → has_room now commands (notes_of first commands) ≡ b →
-        outcome_of (refusal_of first now commands) (living_number (script_start first) now commands) (Ok (Subscribe callback_url 1800)) ≡ grant_of b
-    comes b e = subscribe-comes first now commands (omega (arith, few)) (living_number (script_start first) now commands) ∙ ap grant_of e
+    comes : (b : Bool) → has_room now commands ≡ b →
+        outcome_of (refusal_of now commands) (living_number (script_start wrap first) now commands) (Ok (Subscribe callback_url 1800)) ≡ grant_of b
+    comes b e = subscribe-comes first now commands (omega (arith, few)) (living_number (script_start wrap first) now commands) ∙ ap grant_of e
 
-    by : (b : Bool) → has_room now commands (notes_of first commands) ≡ b → IsSubscribed b first now commands reply note after
+    by : (b : Bool) → has_room now commands ≡ b → IsSubscribed b wrap first now commands reply note after
     by true e =
-        comes-so (script_start first) commands now (subscribe_text event_url callback_url) [] reply note after (codes "SUBSCRIBE") (Subscribe callback_url 1800)
+        comes-so (script_start wrap first) commands now (subscribe_text event_url callback_url) [] reply note after (codes "SUBSCRIBE") (Subscribe callback_url 1800)
         (grant_of true) subscribe-is refl (comes true e) answered
     by false e =
-        comes-so (script_start first) commands now (subscribe_text event_url callback_url) [] reply note after (codes "SUBSCRIBE") (Subscribe callback_url 1800)
+        comes-so (script_start wrap first) commands now (subscribe_text event_url callback_url) [] reply note after (codes "SUBSCRIBE") (Subscribe callback_url 1800)
         (grant_of false) subscribe-is refl (comes false e) answered
 
 -- ---- one that lives is renewed, and given up
@@ -287,34 +288,34 @@ no-number names number high =
     ap (λ d. cond (nat_le names (names + number) && nat_le d last_number) (Some d) None) (number-back names number)
     ∙ ap (λ b. cond b (Some number) None) (neither (nat_le names (names + number)) (nat_le number last_number) (large number last_number high))
 
-pub living-is : (first now number : ℕ) (commands : List Command) → granted commands ≤ last_number →
-    living_number (script_start first) now commands (script_names number) ≡ cond (lives number first now commands) (Some number) None
-living-is first now number commands few = by (cases_lt last_number number)
+pub living-is : (wrap first now number : ℕ) (commands : List Command) → granted commands ≤ last_number →
+    living_number (script_start wrap first) now commands (script_names number) ≡ cond (lives number now commands) (Some number) None
+living-is wrap first now number commands few = by (cases_lt last_number number)
   where
     names : ℕ
-    names = names_of (script_start 0)
+    names = names_of (script_start last_seq 0)
 
-    by : (last_number < number) ⊎ (number ≤ last_number) → if_lives first now commands (number_of names (names + number)) ≡ cond (lives number first now commands) (Some number) None
+    by : (last_number < number) ⊎ (number ≤ last_number) → if_lives now commands (number_of names (names + number)) ≡ cond (lives number now commands) (Some number) None
     by (inl high) =
-        ap (if_lives first now commands) (no-number names number high)
-        ∙ ap (λ b. cond b (Some number) None) (sym (none (lives number first now commands) refl))
+        ap (if_lives now commands) (no-number names number high)
+        ∙ ap (λ b. cond b (Some number) None) (sym (none (lives number now commands) refl))
       where
-        none : (b : Bool) → lives number first now commands ≡ b → b ≡ false
-        none true e = let high-one = lives-granted number first now commands e in absurd (omega (arith, high, high-one, few))
+        none : (b : Bool) → lives number now commands ≡ b → b ≡ false
+        none true e = let high-one = lives-granted number now commands e in absurd (omega (arith, high, high-one, few))
         none false e = refl
     by (inr low) =
-        ap (if_lives first now commands) (its-number names number low)
-        ∙ ap (λ b. cond b (Some number) None) (sym (living-alive first number now commands))
+        ap (if_lives now commands) (its-number names number low)
+        ∙ ap (λ b. cond b (Some number) None) (sym (living-alive number now commands))
 
 -- by whether it lives: its time begins anew; or nothing is done
-abbrev pub RenewedSo : Bool → ℕ → ℕ → ℕ → List Command → List ℕ → Serving → Type 0
-RenewedSo true number first now commands reply after =
-    (reply ≡ lease_reply (script_names number) granted_seconds) × StandsFor after (script_start first) (Renews now number granted_seconds ∷ commands)
-RenewedSo false number first now commands reply after = (reply ≡ empty_reply 412) × StandsFor after (script_start first) commands
+abbrev pub RenewedSo : Bool → ℕ → ℕ → ℕ → ℕ → List Command → List ℕ → Serving → Type 0
+RenewedSo true number wrap first now commands reply after =
+    (reply ≡ lease_reply (script_names number) granted_seconds) × StandsFor after (script_start wrap first) (Renews now number granted_seconds ∷ commands)
+RenewedSo false number wrap first now commands reply after = (reply ≡ empty_reply 412) × StandsFor after (script_start wrap first) commands
 
-abbrev pub EndedSo : Bool → ℕ → ℕ → ℕ → List Command → List ℕ → Serving → Type 0
-EndedSo true number first now commands reply after = (reply ≡ empty_reply 200) × StandsFor after (script_start first) (Ends now number ∷ commands)
-EndedSo false number first now commands reply after = (reply ≡ empty_reply 412) × StandsFor after (script_start first) commands
+abbrev pub EndedSo : Bool → ℕ → ℕ → ℕ → ℕ → List Command → List ℕ → Serving → Type 0
+EndedSo true number wrap first now commands reply after = (reply ≡ empty_reply 200) × StandsFor after (script_start wrap first) (Ends now number ∷ commands)
+EndedSo false number wrap first now commands reply after = (reply ≡ empty_reply 412) × StandsFor after (script_start wrap first) commands
 
 abbrev pub renewal_of : ℕ → Bool → Outcome
 renewal_of number true = Renewed number 1800
@@ -324,52 +325,52 @@ abbrev pub end_so : ℕ → Bool → Outcome
 end_so number true = Ended number
 end_so number false = Refused 412
 
-module _ (first now number : ℕ) (commands : List Command) (few : granted commands ≤ last_number) (short : script_names number < 2 ^ 128) where
+module _ (wrap first now number : ℕ) (commands : List Command) (few : granted commands ≤ last_number) (short : script_names number < 2 ^ 128) where
   abbrev start : Start
-  start = script_start first
+  start = script_start wrap first
 
-  pub renewal-comes : (refusal : Option GenaError) (b : Bool) → lives number first now commands ≡ b →
+  pub renewal-comes : (refusal : Option GenaError) (b : Bool) → lives number now commands ≡ b →
       outcome_of refusal (living_number start now commands) (Ok (Renew (record { 0 = script_names number }) 1800)) ≡ renewal_of number b
   renewal-comes refusal true e =
-      ap (λ o. renewing o 1800) (living-is first now number commands few ∙ ap (λ b. cond b (Some number) None) e)
+      ap (λ o. renewing o 1800) (living-is wrap first now number commands few ∙ ap (λ b. cond b (Some number) None) e)
   renewal-comes refusal false e =
-      ap (λ o. renewing o 1800) (living-is first now number commands few ∙ ap (λ b. cond b (Some number) None) e)
+      ap (λ o. renewing o 1800) (living-is wrap first now number commands few ∙ ap (λ b. cond b (Some number) None) e)
 
-  pub end-comes : (refusal : Option GenaError) (b : Bool) → lives number first now commands ≡ b →
+  pub end-comes : (refusal : Option GenaError) (b : Bool) → lives number now commands ≡ b →
       outcome_of refusal (living_number start now commands) (Ok (Unsubscribe (record { 0 = script_names number }))) ≡ end_so number b
-  end-comes refusal true e = ap ending (living-is first now number commands few ∙ ap (λ b. cond b (Some number) None) e)
-  end-comes refusal false e = ap ending (living-is first now number commands few ∙ ap (λ b. cond b (Some number) None) e)
+  end-comes refusal true e = ap ending (living-is wrap first now number commands few ∙ ap (λ b. cond b (Some number) None) e)
+  end-comes refusal false e = ap ending (living-is wrap first now number commands few ∙ ap (λ b. cond b (Some number) None) e)
 
   pub renewal-answered : (reply : List ℕ) (note : Option FirstNote) (after : Serving) →
       IsAnswered start commands now (renewal_text event_url (script_names number)) [] reply note after →
-      RenewedSo (lives number first now commands) number first now commands reply after
-  renewal-answered reply note after answered = by (lives number first now commands) refl
+      RenewedSo (lives number now commands) number wrap first now commands reply after
+  renewal-answered reply note after answered = by (lives number now commands) refl
     where
-      by : (b : Bool) → lives number first now commands ≡ b → RenewedSo b number first now commands reply after
+      by : (b : Bool) → lives number now commands ≡ b → RenewedSo b number wrap first now commands reply after
       by true e =
           let so = comes-so start commands now (renewal_text event_url (script_names number)) [] reply note after (codes "SUBSCRIBE")
           (Renew (record { 0 = script_names number }) 1800) (renewal_of number true) (renewal-is (script_names number) short) refl
-          (renewal-comes (refusal_of first now commands) true e) answered in
+          (renewal-comes (refusal_of now commands) true e) answered in
           (so.0, so.2)
       by false e =
           let so = comes-so start commands now (renewal_text event_url (script_names number)) [] reply note after (codes "SUBSCRIBE")
           (Renew (record { 0 = script_names number }) 1800) (renewal_of number false) (renewal-is (script_names number) short) refl
-          (renewal-comes (refusal_of first now commands) false e) answered in
+          (renewal-comes (refusal_of now commands) false e) answered in
           (so.0, so.2)
 
   pub end-answered : (reply : List ℕ) (note : Option FirstNote) (after : Serving) →
       IsAnswered start commands now (unsubscribe_text event_url (script_names number)) [] reply note after →
-      EndedSo (lives number first now commands) number first now commands reply after
-  end-answered reply note after answered = by (lives number first now commands) refl
+      EndedSo (lives number now commands) number wrap first now commands reply after
+  end-answered reply note after answered = by (lives number now commands) refl
     where
-      by : (b : Bool) → lives number first now commands ≡ b → EndedSo b number first now commands reply after
+      by : (b : Bool) → lives number now commands ≡ b → EndedSo b number wrap first now commands reply after
       by true e =
           let so = comes-so start commands now (unsubscribe_text event_url (script_names number)) [] reply note after (codes "UNSUBSCRIBE")
           (Unsubscribe (record { 0 = script_names number })) (end_so number true) (unsubscribe-is (script_names number) short) refl
-          (end-comes (refusal_of first now commands) true e) answered in
+          (end-comes (refusal_of now commands) true e) answered in
           (so.0, so.2)
       by false e =
           let so = comes-so start commands now (unsubscribe_text event_url (script_names number)) [] reply note after (codes "UNSUBSCRIBE")
           (Unsubscribe (record { 0 = script_names number })) (end_so number false) (unsubscribe-is (script_names number) short) refl
-          (end-comes (refusal_of first now commands) false e) answered in
+          (end-comes (refusal_of now commands) false e) answered in
           (so.0, so.2)

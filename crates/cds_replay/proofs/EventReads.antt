@@ -1,5 +1,5 @@
 -- What is read of a server's replies about subscriptions, and of the requests that carry notes.
-use Rattle.std.proofs.Common.{◌≡◌, ◌≢◌, ℕ, ◌+◌, ◌<◌, ◌≤◌, ◌^◌, ◌==◌, Bool, true, false, cond, IfSome, List, [], ◌∷◌, ◌++◌, length, Option, Some, None, is_some, option_map, option_and_then, Result, Ok, Err, refl, ap, sym, subst, ◌∙◌, arith, true≢false, eqb-true, append-nil, length-append}
+use Rattle.std.proofs.Common.{◌≡◌, ℕ, ◌+◌, ◌<◌, ◌≤◌, ◌^◌, ◌==◌, Bool, true, false, cond, IfSome, List, [], ◌∷◌, ◌++◌, length, Option, Some, None, is_some, option_map, option_and_then, Result, Ok, Err, refl, ap, sym, subst, ◌∙◌, arith, true≢false, eqb-true, append-nil, length-append}
 use Rattle.std.specs.Prelude.{codes}
 use Rattle.std.specs.Fmt.{decimal, digits}
 use Rattle.std.proofs.lemmas.Fmt.{length-decimal-le}
@@ -52,6 +52,8 @@ use Rattle.cds_replica.specs.State.{ReplicaState, StandsFor}
 use Rattle.cds_replay.specs.Events.{CarriesNote, HasLease, HasSomeStatus, HasStatus, IsAnswered, IsAsked, IsNoteRequest, callback_url, event_url}
 use Rattle.cds_replay.specs.Lines.{numbered_line}
 use Rattle.cds_replay.specs.Sending.{SentNote, carries}
+use Rattle.cds_commands.specs.Places.{seq_at, last_seq}
+use Rattle.cds_commands.specs.Wire.{WireNote, on_wire}
 use Rattle.cds_replay.specs.Session.{HeldTaken, IsHeldAs, IsSentAs, NameTaken, script_names, script_start}
 use Rattle.cds_replay.specs.declared.session.TurnError.{TurnError}
 use Rattle.cds_replay.proofs.Controlled.{one-message}
@@ -121,11 +123,11 @@ no-lease lease has =
 
 -- ---- replies that grant
 
-names-are : names_of (script_start 0) ≡ 0x80008000000000000000
+names-are : names_of (script_start last_seq 0) ≡ 0x80008000000000000000
 names-are = refl
 
 pub names-short : (number : ℕ) → number < 2 ^ 32 → script_names number < 2 ^ 128
-names-short number low = short (names_of (script_start 0)) number names-are low
+names-short number low = short (names_of (script_start last_seq 0)) number names-are low
   where
     short : (names number : ℕ) → names ≡ 0x80008000000000000000 → number < 2 ^ 32 → names + number < 2 ^ 128
     short names number is low = omega (arith, is, low)
@@ -215,84 +217,84 @@ unfolding digits
 refusal-line = refl
 
 -- what grants something is taken as the name
-pub lease-taken : (turns : List ReplicaTurn) (held : HeldReply) (reply : List ℕ) (lease : Lease) (was out : List ℕ) (new : ReplicaState) (result : Result (Unit {0}) TurnError) →
-    IsHeldAs (Some reply) held → HasLease reply (Some lease) → ((name : ℕ) → lease.sid.0 ≡ script_names name → NameTaken turns name was out new result) →
-    HeldTaken turns held was out new result
-lease-taken turns NoReply reply lease was out new result held has taken = absurd held
-lease-taken turns (Named name) reply lease was out new result held has taken = taken name (held-name reply lease name held has)
-lease-taken turns Refusal reply lease was out new result held has taken = absurd (held-granted reply lease held has)
+pub lease-taken : (wrap : ℕ) (turns : List ReplicaTurn) (held : HeldReply) (reply : List ℕ) (lease : Lease) (was out : List ℕ) (new : ReplicaState) (result : Result (Unit {0}) TurnError) →
+    IsHeldAs (Some reply) held → HasLease reply (Some lease) → ((name : ℕ) → lease.sid.0 ≡ script_names name → NameTaken wrap turns name was out new result) →
+    HeldTaken wrap turns held was out new result
+lease-taken wrap turns NoReply reply lease was out new result held has taken = absurd held
+lease-taken wrap turns (Named name) reply lease was out new result held has taken = taken name (held-name reply lease name held has)
+lease-taken wrap turns Refusal reply lease was out new result held has taken = absurd (held-granted reply lease held has)
 
 -- and what grants nothing as the refusal
-pub refusal-held : (turns : List ReplicaTurn) (held : HeldReply) (reply : List ℕ) (old new : ReplicaState) (was out : List ℕ) (status : ℕ) →
-    StandsFor old (named script_names turns) → IsHeldAs (Some reply) held → HasLease reply None → HasStatus reply status → GoesOn old Refuses new →
-    out ≡ was ++ numbered_line (codes "accept ") status → HeldTaken turns held was out new (Ok tt)
-refusal-held turns NoReply reply old new was out status stood held none has goes wrote = absurd held
-refusal-held turns (Named name) reply old new was out status stood held none has goes wrote = absurd (held-unnamed reply name held none)
-refusal-held turns Refusal reply old new was out status stood held none has goes wrote =
-    refusal-taken old new turns was out stood goes
+pub refusal-held : (wrap : ℕ) (turns : List ReplicaTurn) (held : HeldReply) (reply : List ℕ) (old new : ReplicaState) (was out : List ℕ) (status : ℕ) →
+    StandsFor old wrap (named script_names turns) → IsHeldAs (Some reply) held → HasLease reply None → HasStatus reply status → GoesOn old Refuses new →
+    out ≡ was ++ numbered_line (codes "accept ") status → HeldTaken wrap turns held was out new (Ok tt)
+refusal-held wrap turns NoReply reply old new was out status stood held none has goes wrote = absurd held
+refusal-held wrap turns (Named name) reply old new was out status stood held none has goes wrote = absurd (held-unnamed reply name held none)
+refusal-held wrap turns Refusal reply old new was out status stood held none has goes wrote =
+    refusal-taken old new wrap turns was out stood goes
     (wrote ∙ ap (λ n. was ++ numbered_line (codes "accept ") n) (held-status reply status held has) ∙ ap (λ t. was ++ t) refusal-line)
 
 -- ---- what is asked about a subscription that stands
 
-renewed-by : (lived : Bool) (first now number : ℕ) (commands : List Command) (reply : List ℕ) (status : ℕ) (after : Serving) → script_names number < 2 ^ 128 →
-    lives number first now commands ≡ lived → RenewedSo lived number first now commands reply after → HasStatus reply status →
-    ServerStandsFor after (script_start first) (with_renewal (Some number) first now commands) × (status ≡ cond lived 200 412)
-renewed-by true first now number commands reply status after short e so has = (
-  subst (λ (b : Bool). ServerStandsFor after (script_start first) (cond b (Renews now number granted_seconds ∷ commands) commands)) (sym e) so.1,
+renewed-by : (lived : Bool) (wrap first now number : ℕ) (commands : List Command) (reply : List ℕ) (status : ℕ) (after : Serving) → script_names number < 2 ^ 128 →
+    lives number now commands ≡ lived → RenewedSo lived number wrap first now commands reply after → HasStatus reply status →
+    ServerStandsFor after (script_start wrap first) (with_renewal (Some number) now commands) × (status ≡ cond lived 200 412)
+renewed-by true wrap first now number commands reply status after short e so has = (
+  subst (λ (b : Bool). ServerStandsFor after (script_start wrap first) (cond b (Renews now number granted_seconds ∷ commands) commands)) (sym e) so.1,
   lease-status (script_names number) status short (subst (λ bytes. HasStatus bytes status) so.0 has),
 )
-renewed-by false first now number commands reply status after short e so has = (
-  subst (λ (b : Bool). ServerStandsFor after (script_start first) (cond b (Renews now number granted_seconds ∷ commands) commands)) (sym e) so.1,
+renewed-by false wrap first now number commands reply status after short e so has = (
+  subst (λ (b : Bool). ServerStandsFor after (script_start wrap first) (cond b (Renews now number granted_seconds ∷ commands) commands)) (sym e) so.1,
   empty-status-412 status (subst (λ bytes. HasStatus bytes status) so.0 has),
 )
 
-pub renewal-asked : (first now name status : ℕ) (commands : List Command) (after : Serving) → granted commands < 2 ^ 32 → script_names name < 2 ^ 128 →
-    IsAsked (script_start first) commands now (renewal_text event_url (script_names name)) status after →
-    ServerStandsFor after (script_start first) (with_renewal (Some name) first now commands) × (status ≡ cond (lives name first now commands) 200 412)
-renewal-asked first now name status commands after few short asked =
-    renewed-by (lives name first now commands) first now name commands asked.reply status after short refl
-    (renewal-answered first now name commands (omega (arith, few)) short asked.reply asked.note after asked.answered) asked.has
+pub renewal-asked : (wrap first now name status : ℕ) (commands : List Command) (after : Serving) → granted commands < 2 ^ 32 → script_names name < 2 ^ 128 →
+    IsAsked (script_start wrap first) commands now (renewal_text event_url (script_names name)) status after →
+    ServerStandsFor after (script_start wrap first) (with_renewal (Some name) now commands) × (status ≡ cond (lives name now commands) 200 412)
+renewal-asked wrap first now name status commands after few short asked =
+    renewed-by (lives name now commands) wrap first now name commands asked.reply status after short refl
+    (renewal-answered wrap first now name commands (omega (arith, few)) short asked.reply asked.note after asked.answered) asked.has
 
-renewed-has : (lived : Bool) (first now number : ℕ) (commands : List Command) (reply : List ℕ) (after : Serving) → script_names number < 2 ^ 128 →
-    RenewedSo lived number first now commands reply after → HasSomeStatus reply
-renewed-has true first now number commands reply after short so = subst HasSomeStatus (sym so.0) (200, lease-has (script_names number) short)
-renewed-has false first now number commands reply after short so = subst HasSomeStatus (sym so.0) (412, empty-has-412)
+renewed-has : (lived : Bool) (wrap first now number : ℕ) (commands : List Command) (reply : List ℕ) (after : Serving) → script_names number < 2 ^ 128 →
+    RenewedSo lived number wrap first now commands reply after → HasSomeStatus reply
+renewed-has true wrap first now number commands reply after short so = subst HasSomeStatus (sym so.0) (200, lease-has (script_names number) short)
+renewed-has false wrap first now number commands reply after short so = subst HasSomeStatus (sym so.0) (412, empty-has-412)
 
-pub renewal-replies : (first now name : ℕ) (commands : List Command) (reply : List ℕ) (note : Option FirstNote) (after : Serving) → granted commands < 2 ^ 32 →
-    script_names name < 2 ^ 128 → IsAnswered (script_start first) commands now (renewal_text event_url (script_names name)) [] reply note after → HasSomeStatus reply
-renewal-replies first now name commands reply note after few short answered =
-    renewed-has (lives name first now commands) first now name commands reply after short
-    (renewal-answered first now name commands (omega (arith, few)) short reply note after answered)
+pub renewal-replies : (wrap first now name : ℕ) (commands : List Command) (reply : List ℕ) (note : Option FirstNote) (after : Serving) → granted commands < 2 ^ 32 →
+    script_names name < 2 ^ 128 → IsAnswered (script_start wrap first) commands now (renewal_text event_url (script_names name)) [] reply note after → HasSomeStatus reply
+renewal-replies wrap first now name commands reply note after few short answered =
+    renewed-has (lives name now commands) wrap first now name commands reply after short
+    (renewal-answered wrap first now name commands (omega (arith, few)) short reply note after answered)
 
-ended-by : (lived : Bool) (first now number : ℕ) (commands : List Command) (reply : List ℕ) (status : ℕ) (after : Serving) →
-    lives number first now commands ≡ lived → EndedSo lived number first now commands reply after → HasStatus reply status →
-    ServerStandsFor after (script_start first) (given_up (Some number) first now commands) × (status ≡ cond lived 200 412)
-ended-by true first now number commands reply status after e so has = (
-  subst (λ (b : Bool). ServerStandsFor after (script_start first) (cond b (Ends now number ∷ commands) commands)) (sym e) so.1,
+ended-by : (lived : Bool) (wrap first now number : ℕ) (commands : List Command) (reply : List ℕ) (status : ℕ) (after : Serving) →
+    lives number now commands ≡ lived → EndedSo lived number wrap first now commands reply after → HasStatus reply status →
+    ServerStandsFor after (script_start wrap first) (given_up (Some number) now commands) × (status ≡ cond lived 200 412)
+ended-by true wrap first now number commands reply status after e so has = (
+  subst (λ (b : Bool). ServerStandsFor after (script_start wrap first) (cond b (Ends now number ∷ commands) commands)) (sym e) so.1,
   empty-status-200 status (subst (λ bytes. HasStatus bytes status) so.0 has),
 )
-ended-by false first now number commands reply status after e so has = (
-  subst (λ (b : Bool). ServerStandsFor after (script_start first) (cond b (Ends now number ∷ commands) commands)) (sym e) so.1,
+ended-by false wrap first now number commands reply status after e so has = (
+  subst (λ (b : Bool). ServerStandsFor after (script_start wrap first) (cond b (Ends now number ∷ commands) commands)) (sym e) so.1,
   empty-status-412 status (subst (λ bytes. HasStatus bytes status) so.0 has),
 )
 
-pub unsubscribe-asked : (first now name status : ℕ) (commands : List Command) (after : Serving) → granted commands < 2 ^ 32 → script_names name < 2 ^ 128 →
-    IsAsked (script_start first) commands now (unsubscribe_text event_url (script_names name)) status after →
-    ServerStandsFor after (script_start first) (given_up (Some name) first now commands) × (status ≡ cond (lives name first now commands) 200 412)
-unsubscribe-asked first now name status commands after few short asked =
-    ended-by (lives name first now commands) first now name commands asked.reply status after refl
-    (end-answered first now name commands (omega (arith, few)) short asked.reply asked.note after asked.answered) asked.has
+pub unsubscribe-asked : (wrap first now name status : ℕ) (commands : List Command) (after : Serving) → granted commands < 2 ^ 32 → script_names name < 2 ^ 128 →
+    IsAsked (script_start wrap first) commands now (unsubscribe_text event_url (script_names name)) status after →
+    ServerStandsFor after (script_start wrap first) (given_up (Some name) now commands) × (status ≡ cond (lives name now commands) 200 412)
+unsubscribe-asked wrap first now name status commands after few short asked =
+    ended-by (lives name now commands) wrap first now name commands asked.reply status after refl
+    (end-answered wrap first now name commands (omega (arith, few)) short asked.reply asked.note after asked.answered) asked.has
 
-ended-has : (lived : Bool) (first now number : ℕ) (commands : List Command) (reply : List ℕ) (after : Serving) →
-    EndedSo lived number first now commands reply after → HasSomeStatus reply
-ended-has true first now number commands reply after so = subst HasSomeStatus (sym so.0) (200, empty-has-200)
-ended-has false first now number commands reply after so = subst HasSomeStatus (sym so.0) (412, empty-has-412)
+ended-has : (lived : Bool) (wrap first now number : ℕ) (commands : List Command) (reply : List ℕ) (after : Serving) →
+    EndedSo lived number wrap first now commands reply after → HasSomeStatus reply
+ended-has true wrap first now number commands reply after so = subst HasSomeStatus (sym so.0) (200, empty-has-200)
+ended-has false wrap first now number commands reply after so = subst HasSomeStatus (sym so.0) (412, empty-has-412)
 
-pub unsubscribe-replies : (first now name : ℕ) (commands : List Command) (reply : List ℕ) (note : Option FirstNote) (after : Serving) → granted commands < 2 ^ 32 →
-    script_names name < 2 ^ 128 → IsAnswered (script_start first) commands now (unsubscribe_text event_url (script_names name)) [] reply note after → HasSomeStatus reply
-unsubscribe-replies first now name commands reply note after few short answered =
-    ended-has (lives name first now commands) first now name commands reply after
-    (end-answered first now name commands (omega (arith, few)) short reply note after answered)
+pub unsubscribe-replies : (wrap first now name : ℕ) (commands : List Command) (reply : List ℕ) (note : Option FirstNote) (after : Serving) → granted commands < 2 ^ 32 →
+    script_names name < 2 ^ 128 → IsAnswered (script_start wrap first) commands now (unsubscribe_text event_url (script_names name)) [] reply note after → HasSomeStatus reply
+unsubscribe-replies wrap first now name commands reply note after few short answered =
+    ended-has (lives name now commands) wrap first now name commands reply after
+    (end-answered wrap first now name commands (omega (arith, few)) short reply note after answered)
 
 -- ---- notes
 
@@ -357,11 +359,11 @@ carried-text : (to : Address) (body request : List ℕ) → to.callback ≡ scri
 carried-text to body request at goes =
     subst (λ (o : Option Parts). IfSome o (λ (url : Parts). request ≡ notify_text url to body)) (ap url_in at ∙ callback-in) goes
 
-pub note-read : (sent : SentNote) (note : Note) (containers : List (ℕ × ℕ)) (request : List ℕ) → IsSentAs sent note containers →
-    carries sent.to sent.body request → IsNoteRequest request (named_note script_names note)
-note-read sent note containers request is goes =
+pub note-read : (wrap : ℕ) (sent : SentNote) (note : Note) (containers : List (ℕ × ℕ)) (request : List ℕ) → IsSentAs wrap sent note containers →
+    carries sent.to sent.body request → IsNoteRequest request (on_wire wrap (named_note script_names note))
+note-read wrap sent note containers request is goes =
     let r = notes-read callback_url to note.number containers note.events [] false callback-valid callback-goes (names-short note.name is.name) is.seq is.numbers
-    (let long = is.short in let same : length sent.body ≡ length body = ap length is.body in short-note (script_names note.name) note.seq (length body) is.seq (omega (arith, long, same)))
+    (let long = is.short in let same : length sent.body ≡ length body = ap length is.body in short-note (script_names note.name) (seq_at wrap note.place) (length body) is.seq (omega (arith, long, same)))
     (let long = is.short in let same : length sent.body ≡ length body = ap length is.body in omega (arith, long, same)) in
     record {
       message = note_message callback_url to body;
@@ -371,7 +373,7 @@ note-read sent note containers request is goes =
     }
   where
     to : Address
-    to = record { sid = record { 0 = script_names note.name }; callback = script_callback; seq = note.seq }
+    to = record { sid = record { 0 = script_names note.name }; callback = script_callback; seq = seq_at wrap note.place }
 
     body : List ℕ
     body = propertyset_text note.number containers note.events
@@ -396,11 +398,11 @@ note-refused request m e some same answers = by e (subst (λ (n : Message). Answ
     by Body answers = absurd (answers.none some.0.number some.0.events some.1.is.body)
 
 -- the note that a request carries is the one that is read
-pub one-note : (m : Message) (read note : Note) → Answers m (Ok read) → IsNote m note → read ≡ note
+pub one-note : (m : Message) (read note : WireNote) → Answers m (Ok read) → IsNote m note → read ≡ note
 one-note m read note answers is =
     let e : Ok read ≡ Ok note = one-answer m (Ok read) (Ok note) answers is (λ e. cc) (λ e. cc) in cc
 
-pub read-is-note : (request : List ℕ) (note : Note) (m : Message) (read : Note) → IsNoteRequest request note →
+pub read-is-note : (request : List ℕ) (note : WireNote) (m : Message) (read : WireNote) → IsNoteRequest request note →
     ((r : Message) → Decides false Request request (Whole r []) → m ≡ r) → Answers m (Ok read) → read ≡ note
 read-is-note request note m read is same answers =
     one-note m read note answers (subst (λ (x : Message). IsNote x note) (sym (same is.message is.whole)) is.is)

@@ -1,5 +1,5 @@
 -- What asks write was left by the wire.
-use Rattle.std.proofs.Common.{◌≡◌, ◌⊎◌, inl, inr, ℕ, ◌+◌, List, [], ◌∷◌, ◌++◌, Bool, true, false, cond, Option, Some, None, refl, ap, sym, subst, ◌∙◌}
+use Rattle.std.proofs.Common.{◌⊎◌, inl, inr, ℕ, ◌+◌, List, [], ◌∷◌, Bool, true, false, cond, Option, Some, None, ap}
 use Rattle.std.specs.List.{AllByRecursion}
 use Rattle.cds_object.specs.Object.{ObjectRow}
 use Rattle.cds_object.specs.declared.record.Record.{Record}
@@ -8,18 +8,19 @@ use Rattle.cds_load.specs.declared.exchange.Ask.{Ask as Asked}
 use Rattle.cds_load.specs.declared.exchange.Shown.{Shown}
 use Rattle.cds_commands.specs.Notes.{Note, has_room, notes_of}
 use Rattle.cds_commands.specs.Subscriptions.{granted}
-use Rattle.cds_follow.specs.Inbox.{ReplicaTurn, Begins, Shows, Requests, Accepts, Refuses, Delivers}
-use Rattle.cds_follow.specs.Follow.{known_by, next_ask, copied, and_turn, is_refused, says}
+use Rattle.cds_follow.specs.Inbox.{ReplicaTurn, Shows, Requests, Accepts, Delivers}
+use Rattle.cds_follow.specs.Follow.{known_by, next_ask, copied, and_turn, is_refused}
 use Rattle.cds_follow.specs.Seen.{WasShown}
+use Rattle.cds_follow.specs.Wire.{says_by_seq}
 use Rattle.cds_follow.proofs.Seen.{copies-shown}
-use Rattle.cds_script.specs.Report.{Played, first_of, clock_of, records_since, after_reply, after_note, sent_note}
+use Rattle.cds_script.specs.Report.{Played, first_of, clock_of, records_since, after_reply, after_note, reaching, sent_note}
 use Rattle.cds_script.specs.Script.{grant_at}
 use Rattle.cds_script.specs.declared.reply.HeldReply.{HeldReply}
 use Rattle.cds_script.specs.declared.reply.HeldReply.TheVariants.{NoReply, Named, Refusal}
 use Rattle.cds_script.specs.declared.turn.ScriptTurn.{ScriptTurn}
-use Rattle.cds_script.specs.declared.turn.ScriptTurn.TheVariants.{Folder, Track, Tag, Scan, Load, Read, Ask, First, At, Subscribe, Accept, Renew, Unsubscribe, Deliver, ReadFault}
+use Rattle.cds_script.specs.declared.turn.ScriptTurn.TheVariants.{Folder, Track, Tag, Scan, Load, Read, Ask, First, Wrap, At, Subscribe, Accept, Renew, Unsubscribe, Deliver, ReadFault}
 use Rattle.cds_replay.specs.Lines.{known_text}
-use Rattle.cds_replay.specs.Wire.{rows_read, WasLeft, WritesWhatWasLeft, asks_write_what_was_left}
+use Rattle.cds_replay.specs.Wire.{rows_read, WasLeft, asks_write_what_was_left}
 use Rattle.cds_replay.specs.Wired.{ReplayStep, turns_in, and_read, play_read, played_by}
 
 -- what is so of each thing
@@ -64,14 +65,15 @@ module _ (row : ObjectRow) where
   one-left read first now records p Read s = and-read (next_ask (known_by p.replica)) read p.replica s
   one-left read first now records p Ask s = inr s
   one-left read first now records p (First number) s = inr s
+  one-left read first now records p (Wrap number) s = inr s
   one-left read first now records p (At moment) s = inr s
-  one-left read first now records p Subscribe s = inr (by (has_room now p.commands (notes_of first p.commands)) s)
+  one-left read first now records p Subscribe s = inr (by (has_room now p.commands) s)
     where
       granting : Played
-      granting = record { commands = grant_at now ∷ p.commands; replica = Requests ∷ p.replica; reply = Named (granted p.commands + 1) }
+      granting = record p { commands = grant_at now ∷ p.commands; replica = Requests ∷ p.replica; reply = Named (granted p.commands + 1) }
 
       refusing : Played
-      refusing = record { commands = p.commands; replica = Requests ∷ p.replica; reply = Refusal }
+      refusing = record p { replica = Requests ∷ p.replica; reply = Refusal }
 
       by : (b : Bool) → WasShown row (cond b granting refusing).replica → WasShown row p.replica
       by true shown = shown
@@ -79,7 +81,7 @@ module _ (row : ObjectRow) where
   one-left read first now records p Accept s = inr (and-reply p.reply p.replica s)
   one-left read first now records p Renew s = inr s
   one-left read first now records p Unsubscribe s = inr s
-  one-left read first now records p (Deliver note) s = inr (and-note (sent_note note (notes_of first p.commands)) p.replica s)
+  one-left read first now records p (Deliver note) s = inr (and-note (reaching p.wrap p.replica (sent_note note (notes_of first p.commands))) p.replica s)
   one-left read first now records p ReadFault s = inr s
 
   -- what was shown to the replica was left by the wire
@@ -95,7 +97,7 @@ module _ (row : ObjectRow) where
 pub asks-left : asks_write_what_was_left
 asks-left steps newer older read number parts stands = record {
   rows = copied (known_by (played_by older).replica);
-  text = ap (λ s. known_text s (copied (known_by (played_by older).replica))) stands;
+  text = ap (λ s. known_text (says_by_seq (played_by older).wrap s) (copied (known_by (played_by older).replica))) stands;
   left = all-weaker (λ row. WasShown row (played_by older).replica) (λ row. WasLeft row older) (copied (known_by (played_by older).replica))
       (λ row. was-left row older) (copies-shown (played_by older).replica);
 }

@@ -1,9 +1,8 @@
--- A subscription lives where it was granted, has not run out and has a SEQ left.
-use Rattle.std.proofs.Common.{◌≡◌, ◌⊎◌, inl, inr, ◌≤◌, ℕ, Bool, true, false, ◌&&◌, ◌||◌, nat_eq, nat_lt, List, [], ◌∷◌, filter, Option, Some, None, is_some, refl, sym, ap, ◌∙◌, arith, true≢false, eqb-true, eq-eqb}
+-- A subscription lives where it was granted and has not run out.
+use Rattle.std.proofs.Common.{◌≡◌, ◌⊎◌, inl, inr, ◌≤◌, ℕ, Bool, true, false, ◌||◌, nat_eq, List, [], ◌∷◌, filter, Option, Some, None, is_some, refl, sym, ap, ◌∙◌, arith, true≢false, eqb-true, eq-eqb}
 use Rattle.std.specs.List.{list_any, range_with_len}
 use Rattle.cds_commands.specs.Commands.{Command}
 use Rattle.cds_commands.specs.Subscriptions.{granted, unless_past, runs_until, is_alive}
-use Rattle.cds_commands.specs.Notes.{next_seq_of, seq_limit, notes_of}
 use Rattle.cds_commands.proofs.Among.{Among, among-filter, among-row, filter-among}
 use Rattle.cds_gena.proofs.Commands.{runs-named}
 use Rattle.cds_script.specs.Report.{lives}
@@ -26,16 +25,11 @@ any-none : (name : ℕ) (names : List ℕ) → ((other : ℕ) → Among other na
 any-none name [] h = refl
 any-none name (other ∷ names) h = λ i. h other (inl refl) i || any-none name names (λ n a. h n (inr a)) i
 
-both-hold : (a b : Bool) → a && b ≡ true → a ≡ true
-both-hold true b e = refl
-both-hold false b e = e
-
-pub living-alive : (first name now : ℕ) (commands : List Command) →
-    lives name first now commands ≡ is_alive name now commands && nat_lt (next_seq_of name (notes_of first commands)) seq_limit
-living-alive first name now commands = by (passes name) refl
+pub living-alive : (name now : ℕ) (commands : List Command) → lives name now commands ≡ is_alive name now commands
+living-alive name now commands = by (passes name) refl
   where
     passes : ℕ → Bool
-    passes n = is_alive n now commands && nat_lt (next_seq_of n (notes_of first commands)) seq_limit
+    passes n = is_alive n now commands
 
     other-name : passes name ≡ false → (other : ℕ) → passes other ≡ true → (b : Bool) → nat_eq other name ≡ b → b ≡ false
     other-name f other t true h = absurd (true≢false (sym t ∙ ap passes (eqb-true other name h) ∙ f))
@@ -43,7 +37,7 @@ living-alive first name now commands = by (passes name) refl
 
     by : (b : Bool) → passes name ≡ b → list_any (λ other. nat_eq other name) (filter passes (range_with_len 1 (granted commands))) ≡ b
     by true t =
-        let named = runs-named name commands (past-runs now (runs_until name commands) (both-hold (is_alive name now commands) (nat_lt (next_seq_of name (notes_of first commands)) seq_limit) t)) in
+        let named = runs-named name commands (past-runs now (runs_until name commands) t) in
         let low = named.0 in
         let high = named.1 in
         any-among name (filter passes (range_with_len 1 (granted commands)))
@@ -52,7 +46,6 @@ living-alive first name now commands = by (passes name) refl
         (λ other a. other-name f other (filter-among passes (range_with_len 1 (granted commands)) other a).1 (nat_eq other name) refl)
 
 -- one that lives was granted
-pub lives-granted : (name first now : ℕ) (commands : List Command) → lives name first now commands ≡ true → name ≤ granted commands
-lives-granted name first now commands living =
-    (runs-named name commands (past-runs now (runs_until name commands)
-    (both-hold (is_alive name now commands) (nat_lt (next_seq_of name (notes_of first commands)) seq_limit) (sym (living-alive first name now commands) ∙ living)))).1
+pub lives-granted : (name now : ℕ) (commands : List Command) → lives name now commands ≡ true → name ≤ granted commands
+lives-granted name now commands living =
+    (runs-named name commands (past-runs now (runs_until name commands) (sym (living-alive name now commands) ∙ living))).1

@@ -10,12 +10,13 @@ use Rattle.cds_commands.specs.Notes.{Note, has_room, notes_of}
 use Rattle.cds_commands.specs.Subscriptions.{granted}
 use Rattle.cds_follow.specs.Inbox.{ReplicaTurn, Shows, Requests, Accepts, Delivers, accepted}
 use Rattle.cds_follow.specs.Follow.{known_by, next_ask, and_turn, is_refused}
-use Rattle.cds_script.specs.Report.{Played, first_of, clock_of, records_since, after_reply, after_note, sent_note}
+use Rattle.cds_script.specs.Report.{Played, first_of, clock_of, records_since, after_reply, after_note, reaching, sent_note}
 use Rattle.cds_script.specs.Script.{grant_at}
 use Rattle.cds_script.specs.declared.reply.HeldReply.{HeldReply}
 use Rattle.cds_script.specs.declared.reply.HeldReply.TheVariants.{NoReply, Named, Refusal}
 use Rattle.cds_script.specs.declared.turn.ScriptTurn.{ScriptTurn}
-use Rattle.cds_script.specs.declared.turn.ScriptTurn.TheVariants.{Folder, Track, Tag, Scan, Load, Read, Ask, First, At, Subscribe, Accept, Renew, Unsubscribe, Deliver, ReadFault}
+use Rattle.cds_script.specs.declared.turn.ScriptTurn.TheVariants.{Folder, Track, Tag, Scan, Load, Read, Ask, First, Wrap, At, Subscribe, Accept, Renew, Unsubscribe, Deliver, ReadFault}
+use Rattle.cds_commands.specs.Places.{last_seq}
 use Rattle.cds_replay.specs.Session.{script_start, script_names}
 use Rattle.cds_replay.specs.Wired.{ReplayStep, turns_in, and_read, play_read, played_by}
 use Rattle.cds_replay.proofs.Turned.{scanned-granted, ended-granted, renewed-granted}
@@ -73,14 +74,15 @@ one-low read first now records p Load low = low
 one-low read first now records p Read low = (read-low (next_ask (known_by p.replica)) read p.replica (granted p.commands) low.0, low.1)
 one-low read first now records p Ask low = low
 one-low read first now records p (First number) low = low
+one-low read first now records p (Wrap number) low = low
 one-low read first now records p (At moment) low = low
-one-low read first now records p Subscribe low = by (has_room now p.commands (notes_of first p.commands))
+one-low read first now records p Subscribe low = by (has_room now p.commands)
   where
     granting : Played
-    granting = record { commands = grant_at now ∷ p.commands; replica = Requests ∷ p.replica; reply = Named (granted p.commands + 1) }
+    granting = record p { commands = grant_at now ∷ p.commands; replica = Requests ∷ p.replica; reply = Named (granted p.commands + 1) }
 
     refusing : Played
-    refusing = record { commands = p.commands; replica = Requests ∷ p.replica; reply = Refusal }
+    refusing = record p { replica = Requests ∷ p.replica; reply = Refusal }
 
     by : (b : Bool) → AreLow (cond b granting refusing)
     by true = (name-more (accepted p.replica) (granted p.commands) low.0, omega arith)
@@ -88,7 +90,7 @@ one-low read first now records p Subscribe low = by (has_room now p.commands (no
 one-low read first now records p Accept low = (reply-low p.reply p.replica (granted p.commands) low.0 low.1, tt)
 one-low read first now records p Renew low = low-with p.replica p.reply (granted p.commands) _ (renewed-granted first now p.commands (accepted p.replica)) low
 one-low read first now records p Unsubscribe low = low-with p.replica p.reply (granted p.commands) _ (ended-granted first now p.commands (accepted p.replica)) low
-one-low read first now records p (Deliver note) low = (note-low (sent_note note (notes_of first p.commands)) p.replica (granted p.commands) low.0, low.1)
+one-low read first now records p (Deliver note) low = (note-low (reaching p.wrap p.replica (sent_note note (notes_of first p.commands))) p.replica (granted p.commands) low.0, low.1)
 one-low read first now records p ReadFault low = low
 
 all-low : (steps : List ReplayStep) → AreLow (played_by steps)
@@ -103,4 +105,4 @@ short-name names name room few = omega (arith, room, few)
 pub accepted-short : (steps : List ReplayStep) (name : ℕ) → accepted (played_by steps).replica ≡ Some name → granted (played_by steps).commands < 2 ^ 32 → script_names name < 2 ^ 128
 accepted-short steps name is few =
     let low : name ≤ granted (played_by steps).commands = subst (λ o. LowName o (granted (played_by steps).commands)) is (all-low steps).0 in
-    short-name (names_of (script_start 0)) name (omega arith) (omega (arith, low, few))
+    short-name (names_of (script_start last_seq 0)) name (omega arith) (omega (arith, low, few))

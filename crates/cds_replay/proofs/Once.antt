@@ -1,7 +1,6 @@
 -- A script ends over a wire in one way.
-use Rattle.std.proofs.Common.{◌≡◌, ℕ, ◌+◌, List, [], ◌∷◌, length, Bool, true, false, nat_lt, Option, Some, None, refl, ap, sym, subst, ◌∙◌}
+use Rattle.std.proofs.Common.{◌≡◌, ℕ, ◌+◌, List, [], ◌∷◌, length, Bool, true, false, nat_lt, Option, Some, None, ap, sym, subst, ◌∙◌}
 use Rattle.std.specs.Prelude.{nat_le}
-use Rattle.cds_exchange.specs.Laws.{ReadingsAreOne}
 use Rattle.cds_exchange.proofs.OneReading.{readings-are-one}
 use Rattle.cds_load.specs.Server.{Moment}
 use Rattle.cds_load.specs.declared.exchange.Ask.{Ask as Asked}
@@ -13,7 +12,7 @@ use Rattle.cds_script.specs.Report.{outside_ending, limit_ending}
 use Rattle.cds_script.specs.declared.turn.Meaning.{Meaning}
 use Rattle.cds_script.specs.declared.turn.Meaning.TheVariants.{Nothing, Means, Outside}
 use Rattle.cds_script.specs.declared.turn.ScriptTurn.{ScriptTurn}
-use Rattle.cds_script.specs.declared.turn.ScriptTurn.TheVariants.{Folder, Track, Tag, Scan, Load, Read, Ask, First, At, Subscribe, Accept, Renew, Unsubscribe, Deliver, ReadFault}
+use Rattle.cds_script.specs.declared.turn.ScriptTurn.TheVariants.{Folder, Track, Tag, Scan, Load, Read, Ask, First, Wrap, At, Subscribe, Accept, Renew, Unsubscribe, Deliver, ReadFault}
 use Rattle.cds_replay.specs.Wire.{WiredEnding, unrefused, refused_at, wired_first, server_reply, Either, IsLeftOf, IsReadBy, EndsAtStep, EndsAtTurn, EndsAtLine, EndsFrom, EndsOver, lines_in, wires_end_once}
 use Rattle.cds_replay.specs.Wired.{ReplayStep, played_by, moment_by, may_stand_by, refuses, written_on}
 
@@ -35,6 +34,7 @@ read-once carried older Load one other is also = is ∙ sym also
 read-once carried older Read one other is also = left-once carried (moment_by older) (next_ask (known_by (played_by older).replica)) one other is also
 read-once carried older Ask one other is also = is ∙ sym also
 read-once carried older (First number) one other is also = is ∙ sym also
+read-once carried older (Wrap number) one other is also = is ∙ sym also
 read-once carried older (At moment) one other is also = is ∙ sym also
 read-once carried older Subscribe one other is also = is ∙ sym also
 read-once carried older Accept one other is also = is ∙ sym also

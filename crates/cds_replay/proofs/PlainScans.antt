@@ -17,7 +17,7 @@ use Rattle.cds_exchange.proofs.Histories.{histories-are-plain}
 use Rattle.cds_commands.specs.Commands.{Command, Scans, Grants, Renews, Ends, Stops, Ticks, scans_of, AreAccepted}
 use Rattle.cds_catalog.specs.Laws.{AreLibraries}
 use Rattle.cds_load.specs.declared.exchange.Shown.{Shown}
-use Rattle.cds_commands.specs.Notes.{has_room, notes_of}
+use Rattle.cds_commands.specs.Notes.{has_room}
 use Rattle.cds_commands.specs.Subscriptions.{granted}
 use Rattle.cds_commands.proofs.Scanned.{scans-first}
 use Rattle.cds_follow.specs.Inbox.{Requests, accepted}
@@ -27,7 +27,7 @@ use Rattle.cds_script.specs.declared.found.Found.{Found}
 use Rattle.cds_script.specs.declared.found.Found.TheVariants.{Folder as FolderFound, Track as TrackFound}
 use Rattle.cds_script.specs.declared.reply.HeldReply.TheVariants.{Named, Refusal}
 use Rattle.cds_script.specs.declared.turn.ScriptTurn.{ScriptTurn}
-use Rattle.cds_script.specs.declared.turn.ScriptTurn.TheVariants.{Folder, Track, Tag, Scan, Load, Read, Ask, First, At, Subscribe, Accept, Renew, Unsubscribe, Deliver, ReadFault}
+use Rattle.cds_script.specs.declared.turn.ScriptTurn.TheVariants.{Folder, Track, Tag, Scan, Load, Read, Ask, First, Wrap, At, Subscribe, Accept, Renew, Unsubscribe, Deliver, ReadFault}
 use Rattle.cds_replay.specs.Wired.{ReplayStep, turns_in, play_read, played_by, moment_by, AllStandBy, MayBeBy}
 use Rattle.cds_script.proofs.Given.{ScannedCases, scanned-cases, scan-accepted}
 
@@ -61,6 +61,7 @@ found-plain (Load ∷ older) all = found-plain older all.1
 found-plain (Read ∷ older) all = found-plain older all.1
 found-plain (Ask ∷ older) all = found-plain older all.1
 found-plain (First number ∷ older) all = found-plain older all.1
+found-plain (Wrap number ∷ older) all = found-plain older all.1
 found-plain (At moment ∷ older) all = found-plain older all.1
 found-plain (Subscribe ∷ older) all = found-plain older all.1
 found-plain (Accept ∷ older) all = found-plain older all.1
@@ -100,17 +101,17 @@ scan-plain first records commands plain has = by _ (scanned-cases (scans_of firs
         subst HasPlainScans (sym e.3)
         (record { scans = records ∷ has.scans; are = ap (λ maps. map_of records ∷ maps) has.are; plain = (plain, has.plain); good = (e.0, has.good) })
 
-given-plain : (first now : ℕ) (commands : List Command) (o : Option ℕ) → HasPlainScans commands → HasPlainScans (given_up o first now commands)
+given-plain : (first now : ℕ) (commands : List Command) (o : Option ℕ) → HasPlainScans commands → HasPlainScans (given_up o now commands)
 given-plain first now commands None has = has
-given-plain first now commands (Some name) has = by (lives name first now commands)
+given-plain first now commands (Some name) has = by (lives name now commands)
   where
     by : (b : Bool) → HasPlainScans (cond b (Ends now name ∷ commands) commands)
     by true = same-scans commands (Ends now name ∷ commands) refl has
     by false = has
 
-renewal-plain : (first now : ℕ) (commands : List Command) (o : Option ℕ) → HasPlainScans commands → HasPlainScans (with_renewal o first now commands)
+renewal-plain : (first now : ℕ) (commands : List Command) (o : Option ℕ) → HasPlainScans commands → HasPlainScans (with_renewal o now commands)
 renewal-plain first now commands None has = has
-renewal-plain first now commands (Some name) has = by (lives name first now commands)
+renewal-plain first now commands (Some name) has = by (lives name now commands)
   where
     by : (b : Bool) → HasPlainScans (cond b (Renews now name granted_seconds ∷ commands) commands)
     by true = same-scans commands (Renews now name granted_seconds ∷ commands) refl has
@@ -126,14 +127,15 @@ one-plain read first now records p Load plain has = has
 one-plain read first now records p Read plain has = has
 one-plain read first now records p Ask plain has = has
 one-plain read first now records p (First number) plain has = has
+one-plain read first now records p (Wrap number) plain has = has
 one-plain read first now records p (At moment) plain has = same-scans p.commands (Ticks moment ∷ p.commands) refl has
-one-plain read first now records p Subscribe plain has = by (has_room now p.commands (notes_of first p.commands))
+one-plain read first now records p Subscribe plain has = by (has_room now p.commands)
   where
     granting : Played
-    granting = record { commands = grant_at now ∷ p.commands; replica = Requests ∷ p.replica; reply = Named (granted p.commands + 1) }
+    granting = record p { commands = grant_at now ∷ p.commands; replica = Requests ∷ p.replica; reply = Named (granted p.commands + 1) }
 
     refusing : Played
-    refusing = record { commands = p.commands; replica = Requests ∷ p.replica; reply = Refusal }
+    refusing = record p { replica = Requests ∷ p.replica; reply = Refusal }
 
     by : (b : Bool) → HasPlainScans (cond b granting refusing).commands
     by true = same-scans p.commands (grant_at now ∷ p.commands) refl has
@@ -167,17 +169,17 @@ scanned-accepted first records commands a = by _ (scanned-cases (scans_of first 
     by now (inl e) = subst (AreAccepted first) (sym e) a
     by now (inr e) = subst (AreAccepted first) (sym e.3) (scan-accepted first records commands a e.0 e.1 e.2)
 
-given-accepted : (first now : ℕ) (commands : List Command) (o : Option ℕ) → AreAccepted first commands → AreAccepted first (given_up o first now commands)
+given-accepted : (first now : ℕ) (commands : List Command) (o : Option ℕ) → AreAccepted first commands → AreAccepted first (given_up o now commands)
 given-accepted first now commands None a = a
-given-accepted first now commands (Some name) a = by (lives name first now commands)
+given-accepted first now commands (Some name) a = by (lives name now commands)
   where
     by : (b : Bool) → AreAccepted first (cond b (Ends now name ∷ commands) commands)
     by true = more-accepted first commands (Ends now name ∷ commands) refl a
     by false = a
 
-renewal-accepted : (first now : ℕ) (commands : List Command) (o : Option ℕ) → AreAccepted first commands → AreAccepted first (with_renewal o first now commands)
+renewal-accepted : (first now : ℕ) (commands : List Command) (o : Option ℕ) → AreAccepted first commands → AreAccepted first (with_renewal o now commands)
 renewal-accepted first now commands None a = a
-renewal-accepted first now commands (Some name) a = by (lives name first now commands)
+renewal-accepted first now commands (Some name) a = by (lives name now commands)
   where
     by : (b : Bool) → AreAccepted first (cond b (Renews now name granted_seconds ∷ commands) commands)
     by true = more-accepted first commands (Renews now name granted_seconds ∷ commands) refl a
@@ -193,14 +195,15 @@ one-accepted read first now records p Load a = a
 one-accepted read first now records p Read a = a
 one-accepted read first now records p Ask a = a
 one-accepted read first now records p (First number) a = a
+one-accepted read first now records p (Wrap number) a = a
 one-accepted read first now records p (At moment) a = more-accepted first p.commands (Ticks moment ∷ p.commands) refl a
-one-accepted read first now records p Subscribe a = by (has_room now p.commands (notes_of first p.commands))
+one-accepted read first now records p Subscribe a = by (has_room now p.commands)
   where
     granting : Played
-    granting = record { commands = grant_at now ∷ p.commands; replica = Requests ∷ p.replica; reply = Named (granted p.commands + 1) }
+    granting = record p { commands = grant_at now ∷ p.commands; replica = Requests ∷ p.replica; reply = Named (granted p.commands + 1) }
 
     refusing : Played
-    refusing = record { commands = p.commands; replica = Requests ∷ p.replica; reply = Refusal }
+    refusing = record p { replica = Requests ∷ p.replica; reply = Refusal }
 
     by : (b : Bool) → AreAccepted first (cond b granting refusing).commands
     by true = more-accepted first p.commands (grant_at now ∷ p.commands) refl a
@@ -224,6 +227,7 @@ begun-accepted read Load low = none-accepted 0 low
 begun-accepted read Read low = none-accepted 0 low
 begun-accepted read Ask low = none-accepted 0 low
 begun-accepted read (First number) low = none-accepted number low
+begun-accepted read (Wrap number) low = none-accepted 0 low
 begun-accepted read (At moment) low = one-accepted read 0 0 [] (played_by []) (At moment) (none-accepted 0 low)
 begun-accepted read Subscribe low = one-accepted read 0 0 [] (played_by []) Subscribe (none-accepted 0 low)
 begun-accepted read Accept low = none-accepted 0 low

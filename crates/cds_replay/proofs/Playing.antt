@@ -3,12 +3,11 @@ use Rattle.std.proofs.Common.{◌≡◌, ℕ, ◌+◌, ◌-◌, ◌≤◌, min, 
 use Rattle.std.proofs.lemmas.List.{append-nil, take-append-drop}
 use Rattle.cds_outside.specs.Outside.{raised, Told}
 use Rattle.cds_replay.specs.declared.script.Script.{Script}
-use Rattle.cds_replay.specs.declared.script.ScriptStop.{ScriptStop}
 use Rattle.cds_replay.specs.declared.script.ScriptStop.TheVariants.{Outside, Limit as PastLimit, Refused as RefusedAt}
 use Rattle.cds_replay.specs.declared.play.ReplayError.{ReplayError}
 use Rattle.cds_replay.specs.declared.play.ReplayError.TheVariants.{Line, ReadFault, WriteFault, Limit, Refused, Mem}
 use Rattle.cds_replay.specs.Script.{stop_text, GoesOn}
-use Rattle.cds_replay.specs.Wire.{WiredEnding, EndsOver, OnWire}
+use Rattle.cds_replay.specs.Wire.{EndsOver, OnWire}
 use Rattle.cds_replay.specs.Replay.{OnLine, OnRefused, OnLimit, Holds, Reports, EndsWith, Closes, EndsIn, Played, StopsIn, Stopped, Under}
 
 -- a text after another

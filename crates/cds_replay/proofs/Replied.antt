@@ -1,14 +1,12 @@
 -- What a script's server answers to an ask is what an honest server has.
-use Rattle.std.proofs.Common.{◌≡◌, ℕ, ◌<◌, ◌≤◌, ◌^◌, List, [], ◌∷◌, map, filter, take, drop, length, min, Bool, true, false, suc, cond, nat_eq, Option, Some, None, Result, Ok, Err, refl, ap, sym, subst, ◌∙◌, arith, true≢false}
-use Rattle.std.specs.Prelude.{codes, unwrap_or, MatchOption}
+use Rattle.std.proofs.Common.{◌≡◌, ℕ, ◌<◌, ◌^◌, List, [], ◌∷◌, map, filter, take, drop, length, Bool, true, false, suc, cond, nat_eq, Option, Some, None, Result, Ok, Err, refl, ap, ◌∙◌, arith}
+use Rattle.std.specs.Prelude.{codes}
 use Rattle.std.specs.Fmt.{decimal}
-use Rattle.std.specs.Str.{bytes_eq}
-use Rattle.std.specs.List.{AllByRecursion, cons_option}
+use Rattle.std.specs.List.{AllByRecursion}
 use Rattle.std.proofs.lemmas.Slice.Eq.{bytes_eq-Decides}
 use Rattle.uuid.specs.Text.{by_index}
 use Rattle.cds_object.specs.Object.{ObjectRow, is_folder}
-use Rattle.cds_object.specs.Tree.{row_of, children_of, is_child_of, is_container_row, IsHeld, IdsAscend}
-use Rattle.cds_object.specs.declared.row.Trackers.{Trackers}
+use Rattle.cds_object.specs.Tree.{row_of, children_of, is_child_of, IdsAscend}
 use Rattle.cds_base.proofs.Plain.{decimal-read}
 use Rattle.cds_didl.specs.Filter.{filter_of}
 use Rattle.cds_didl.specs.Fragment.{didl_text}
@@ -32,7 +30,7 @@ use Rattle.cds_load.specs.declared.exchange.Ask.{Ask}
 use Rattle.cds_load.specs.declared.exchange.Ask.TheVariants.{Token, Number, Metadata, Children}
 use Rattle.cds_exchange.specs.Asking.{browse_of, action_of}
 use Rattle.cds_exchange.specs.Honest.{IsPlainMoment, IsPlainRow, IsInRange, answer_saying}
-use Rattle.cds_commands.specs.Commands.{Command, scans_of}
+use Rattle.cds_commands.specs.Commands.{Command}
 use Rattle.cds_commands.specs.Names.{names_of}
 use Rattle.cds_follow.specs.Given.{moment_after}
 use Rattle.cds_script.specs.Report.{script_token}
@@ -144,13 +142,13 @@ module _ (host : List ℕ) (moment : Moment) (plain : IsPlainMoment moment) wher
 
 -- ---- a script's server
 
-token-is : (first : ℕ) → token_of (names_of (script_start first)) ≡ script_token
+token-is : (wrap first : ℕ) → token_of (names_of (script_start wrap first)) ≡ script_token
 unfolding by_index
-token-is first = refl
+token-is wrap first = refl
 
-pub server-says : (first : ℕ) (commands : List Command) (ask : Ask) → IsPlainMoment (moment_after script_token first commands) → IsInRange ask →
-    answer_to (published_by (script_start first) commands) (codes "127.0.0.1:49152") (action_of ask) ≡ answer_saying script_base (reply_to (moment_after script_token first commands) ask)
-server-says first commands ask plain fits =
+pub server-says : (wrap first : ℕ) (commands : List Command) (ask : Ask) → IsPlainMoment (moment_after script_token first commands) → IsInRange ask →
+    answer_to (published_by (script_start wrap first) commands) (codes "127.0.0.1:49152") (action_of ask) ≡ answer_saying script_base (reply_to (moment_after script_token first commands) ask)
+server-says wrap first commands ask plain fits =
     ap (λ token. answer_to (record { token = token; number = (moment_after script_token first commands).number; rows = (moment_after script_token first commands).rows })
-    (codes "127.0.0.1:49152") (action_of ask)) (token-is first)
+    (codes "127.0.0.1:49152") (action_of ask)) (token-is wrap first)
     ∙ answers-say (codes "127.0.0.1:49152") (moment_after script_token first commands) plain ask fits

@@ -6,7 +6,7 @@ use Rattle.cds_soap.proofs.OneAnswer.{one-ask}
 use Rattle.cds_exchange.proofs.Honest.{asks-are-read}
 use Rattle.cds_commands.specs.Commands.{Command, Start}
 use Rattle.cds_commands.specs.Names.{names_of}
-use Rattle.cds_commands.specs.Notes.{has_room, notes_of}
+use Rattle.cds_commands.specs.Notes.{has_room}
 use Rattle.cds_commands.specs.Subscriptions.{granted}
 use Rattle.cds_gena.specs.Written.{subscribe_text, renewal_text, unsubscribe_text}
 use Rattle.cds_gena.specs.declared.gena.Gena.{Gena}
@@ -27,14 +27,14 @@ use Rattle.cds_replay.proofs.EventReads.{empty-has-200, empty-has-412, empty-has
 use Rattle.cds_replay.proofs.EventUrls.{event-target}
 
 pub asks-replied : asks_are_replied
-asks-replied first now commands ask m reply plain fits whole = ask-replied asks-are-read (answers-it (control-answers one-ask)) first commands now ask m reply plain fits whole
+asks-replied wrap first now commands ask m reply plain fits whole = ask-replied asks-are-read (answers-it (control-answers one-ask)) wrap first commands now ask m reply plain fits whole
 
-module _ (first now : ℕ) (commands : List Command) (request : List ℕ) (status : ℕ) (method : List ℕ) (gena : Gena) (come : Outcome) where
+module _ (wrap first now : ℕ) (commands : List Command) (request : List ℕ) (status : ℕ) (method : List ℕ) (gena : Gena) (come : Outcome) where
   abbrev start : Start
-  start = script_start first
+  start = script_start wrap first
 
   came : asked-whole request method gena → asks_events (of_request method (codes "/event")) ≡ true →
-      outcome_of (refusal_of first now commands) (living_number start now commands) (Ok gena) ≡ come →
+      outcome_of (refusal_of now commands) (living_number start now commands) (Ok gena) ≡ come →
       HasStatus (outcome_reply (names_of start) (granted commands) come) status → AreReplied start commands now request status
   came asked events comes has = record {
     message = asked.message;
@@ -48,48 +48,48 @@ module _ (first now : ℕ) (commands : List Command) (request : List ℕ) (statu
       way = asks-way asked.message (ap asks_events (asked.start ∙ ap (of_request method) event-target) ∙ events)
 
       is : outcome start commands now asked.message ≡ come
-      is = ap (outcome_of (refusal_of first now commands) (living_number start now commands)) asked.asks ∙ comes
+      is = ap (outcome_of (refusal_of now commands) (living_number start now commands)) asked.asks ∙ comes
 
 pub subscriptions-replied : subscriptions_are_replied
-subscriptions-replied first now commands few = by (has_room now commands (notes_of first commands)) refl
+subscriptions-replied wrap first now commands few = by (has_room now commands) refl
   where
-    comes : (b : Bool) → has_room now commands (notes_of first commands) ≡ b →
-        outcome_of (refusal_of first now commands) (living_number (script_start first) now commands) (Ok (Subscribe callback_url 1800)) ≡ grant_of b
-    comes b e = subscribe-comes first now commands (omega (arith, few)) (living_number (script_start first) now commands) ∙ ap grant_of e
+    comes : (b : Bool) → has_room now commands ≡ b →
+        outcome_of (refusal_of now commands) (living_number (script_start wrap first) now commands) (Ok (Subscribe callback_url 1800)) ≡ grant_of b
+    comes b e = subscribe-comes first now commands (omega (arith, few)) (living_number (script_start wrap first) now commands) ∙ ap grant_of e
 
-    by : (b : Bool) → has_room now commands (notes_of first commands) ≡ b →
-        AreReplied (script_start first) commands now (subscribe_text event_url callback_url) (cond b 200 503)
+    by : (b : Bool) → has_room now commands ≡ b →
+        AreReplied (script_start wrap first) commands now (subscribe_text event_url callback_url) (cond b 200 503)
     by true e =
-        came first now commands (subscribe_text event_url callback_url) 200 (codes "SUBSCRIBE") (Subscribe callback_url 1800) (grant_of true) subscribe-is refl (comes true e)
+        came wrap first now commands (subscribe_text event_url callback_url) 200 (codes "SUBSCRIBE") (Subscribe callback_url 1800) (grant_of true) subscribe-is refl (comes true e)
         (lease-has (script_names (granted commands + 1)) (names-short (granted commands + 1) few))
     by false e =
-        came first now commands (subscribe_text event_url callback_url) 503 (codes "SUBSCRIBE") (Subscribe callback_url 1800) (grant_of false) subscribe-is refl (comes false e)
+        came wrap first now commands (subscribe_text event_url callback_url) 503 (codes "SUBSCRIBE") (Subscribe callback_url 1800) (grant_of false) subscribe-is refl (comes false e)
         empty-has-503
 
 pub renewals-replied : renewals_are_replied
-renewals-replied first now name commands few short = by (lives name first now commands) refl
+renewals-replied wrap first now name commands few short = by (lives name now commands) refl
   where
-    by : (b : Bool) → lives name first now commands ≡ b →
-        AreReplied (script_start first) commands now (renewal_text event_url (script_names name)) (cond b 200 412)
+    by : (b : Bool) → lives name now commands ≡ b →
+        AreReplied (script_start wrap first) commands now (renewal_text event_url (script_names name)) (cond b 200 412)
     by true e =
-        came first now commands (renewal_text event_url (script_names name)) 200 (codes "SUBSCRIBE") (Renew (record { 0 = script_names name }) 1800) (renewal_of name true)
-        (renewal-is (script_names name) short) refl (renewal-comes first now name commands (omega (arith, few)) short (refusal_of first now commands) true e)
+        came wrap first now commands (renewal_text event_url (script_names name)) 200 (codes "SUBSCRIBE") (Renew (record { 0 = script_names name }) 1800) (renewal_of name true)
+        (renewal-is (script_names name) short) refl (renewal-comes wrap first now name commands (omega (arith, few)) short (refusal_of now commands) true e)
         (lease-has (script_names name) short)
     by false e =
-        came first now commands (renewal_text event_url (script_names name)) 412 (codes "SUBSCRIBE") (Renew (record { 0 = script_names name }) 1800) (renewal_of name false)
-        (renewal-is (script_names name) short) refl (renewal-comes first now name commands (omega (arith, few)) short (refusal_of first now commands) false e)
+        came wrap first now commands (renewal_text event_url (script_names name)) 412 (codes "SUBSCRIBE") (Renew (record { 0 = script_names name }) 1800) (renewal_of name false)
+        (renewal-is (script_names name) short) refl (renewal-comes wrap first now name commands (omega (arith, few)) short (refusal_of now commands) false e)
         empty-has-412
 
 pub ends-replied : ends_are_replied
-ends-replied first now name commands few short = by (lives name first now commands) refl
+ends-replied wrap first now name commands few short = by (lives name now commands) refl
   where
-    by : (b : Bool) → lives name first now commands ≡ b →
-        AreReplied (script_start first) commands now (unsubscribe_text event_url (script_names name)) (cond b 200 412)
+    by : (b : Bool) → lives name now commands ≡ b →
+        AreReplied (script_start wrap first) commands now (unsubscribe_text event_url (script_names name)) (cond b 200 412)
     by true e =
-        came first now commands (unsubscribe_text event_url (script_names name)) 200 (codes "UNSUBSCRIBE") (Unsubscribe (record { 0 = script_names name })) (end_so name true)
-        (unsubscribe-is (script_names name) short) refl (end-comes first now name commands (omega (arith, few)) short (refusal_of first now commands) true e)
+        came wrap first now commands (unsubscribe_text event_url (script_names name)) 200 (codes "UNSUBSCRIBE") (Unsubscribe (record { 0 = script_names name })) (end_so name true)
+        (unsubscribe-is (script_names name) short) refl (end-comes wrap first now name commands (omega (arith, few)) short (refusal_of now commands) true e)
         empty-has-200
     by false e =
-        came first now commands (unsubscribe_text event_url (script_names name)) 412 (codes "UNSUBSCRIBE") (Unsubscribe (record { 0 = script_names name })) (end_so name false)
-        (unsubscribe-is (script_names name) short) refl (end-comes first now name commands (omega (arith, few)) short (refusal_of first now commands) false e)
+        came wrap first now commands (unsubscribe_text event_url (script_names name)) 412 (codes "UNSUBSCRIBE") (Unsubscribe (record { 0 = script_names name })) (end_so name false)
+        (unsubscribe-is (script_names name) short) refl (end-comes wrap first now name commands (omega (arith, few)) short (refusal_of now commands) false e)
         empty-has-412

@@ -1,5 +1,5 @@
 -- Over a wire that leaves all as it is a replay reports what the script reports.
-use Rattle.std.proofs.Common.{◌≡◌, ℕ, List, ◌++◌, Option, Some, None, Result, Ok, Err, IfErr, OnOk, refl, ap, sym, subst, ◌∙◌}
+use Rattle.std.proofs.Common.{◌≡◌, ℕ, List, ◌++◌, Option, None, Result, IfErr, OnOk, ap, sym, subst, ◌∙◌}
 use Rattle.std.proofs.lemmas.Result.{on_ok_weaker, IfErr-weaker}
 use Rattle.cds_outside.specs.Outside.{Told}
 use Rattle.cds_script.specs.Report.{Ending, outside_ending, script_ending}

@@ -11,7 +11,7 @@ use Rattle.cds_replay.specs.Session.{Playing, IsAfter}
 use Rattle.cds_replay.specs.declared.script.Script.{Script}
 use Rattle.cds_replay.specs.declared.script.ScriptStop.{ScriptStop}
 use Rattle.cds_replay.specs.declared.script.ScriptStop.TheVariants.{Limit}
-use Rattle.cds_replay.specs.Script.{stop_status, stop_text, stop_refused, GoesOn, Went, EndsAt, StopsAt, Fed, Finished, Continued, LineRead}
+use Rattle.cds_replay.specs.Script.{stop_status, stop_text, stop_refused, GoesOn, Went, StopsAt, Fed, Finished, Continued, LineRead}
 use Rattle.cds_replay.specs.Wire.{WiredEnding, unrefused, wired_first, EndsAtLine, EndsOf, EndsOver, lines_in}
 use Rattle.cds_replay.specs.Wired.{ReplayStep}
 use Rattle.cds_replay.proofs.Ends.{ends-same, ends-line, ends-last, ends-none, ends-limit}

@@ -1,6 +1,6 @@
 -- Notes that were sent are those that they were, whatever body is added, and new notes have the new body.
 use Rattle.std.proofs.Common.{◌≡◌, ◌+◌, ◌<◌, ℕ, zero, suc, List, [], ◌∷◌, ◌++◌, map, length, Option, Some, None, Bool, refl, ap, sym, subst, ◌∙◌, arith, length-append}
-use Rattle.std.specs.Prelude.{unwrap_or, slice_get, nat_eq, false, true, cond, ◌-◌}
+use Rattle.std.specs.Prelude.{unwrap_or, slice_get, nat_eq, false, cond, ◌-◌}
 use Rattle.std.specs.List.{AllByRecursion}
 use Rattle.cds_catalog.proofs.StepsFind.{each-append, each-map, each-weaker}
 use Rattle.cds_gena.specs.declared.address.Address.{Address}

@@ -1,17 +1,19 @@
 -- The notes that were sent over the wire are those that the commands send, in order.
-use Rattle.std.proofs.Common.{◌≡◌, ℕ, zero, suc, ◌+◌, ◌-◌, ◌≤◌, ◌<◌, ◌^◌, Bool, true, false, cond, ◌&&◌, nat_lt, nat_eq, List, [], ◌∷◌, ◌++◌, map, filter, length, drop, Option, Some, None, refl, ap, sym, subst, ◌∙◌, arith, append_assoc, ltb-true, ◌⊎◌, inl, inr}
+use Rattle.std.proofs.Common.{◌≡◌, ℕ, zero, suc, ◌+◌, ◌-◌, ◌≤◌, ◌<◌, ◌^◌, Bool, true, false, cond, nat_eq, List, [], ◌∷◌, ◌++◌, map, filter, length, drop, Option, Some, None, refl, ap, sym, subst, ◌∙◌, arith, append_assoc, ◌⊎◌, inl, inr}
 use Rattle.std.specs.Prelude.{codes, slice_get, unwrap_or, option_map, IfSome}
 use Rattle.std.specs.Fmt.{decimal}
 use Rattle.std.specs.List.{AllByRecursion, range_with_len}
 use Rattle.std.proofs.Math.Seq.{drop-append_seam}
-use Rattle.std.proofs.lemmas.Bool.{and_parts, cases_lt, eqb-false}
+use Rattle.std.proofs.lemmas.Bool.{cases_lt, eqb-false}
 use Rattle.cds_object.specs.declared.record.Record.{Record}
 use Rattle.cds_catalog.specs.Scans.{ScanAnswer, Accepted, BadRecord, TooMany, NoNumbers, scan_answer}
 use Rattle.cds_catalog.specs.History.{History}
 use Rattle.cds_commands.specs.Commands.{Command, Scans, Grants, Renews, Ends, Ticks, Stops, scans_of, AreAccepted}
 use Rattle.cds_commands.specs.Releases.{Release, release_at, releases_of, released_containers}
 use Rattle.cds_commands.specs.Subscriptions.{granted, is_alive, callback_of}
-use Rattle.cds_commands.specs.Notes.{Note, next_seq_of, seq_limit, alive_names, has_room, released_note, released_notes, sent_by, notes_of}
+use Rattle.cds_commands.specs.Notes.{Note, next_place_of, alive_names, has_room, released_note, released_notes, sent_by, notes_of}
+use Rattle.std.proofs.lemmas.Nat.{mod_below}
+use Rattle.cds_commands.specs.Places.{seq_at}
 use Rattle.cds_load.specs.declared.exchange.Shown.{Shown}
 use Rattle.cds_follow.specs.Inbox.{Requests, accepted}
 use Rattle.cds_notify.specs.Laws.{AreNumbers}
@@ -19,7 +21,7 @@ use Rattle.cds_server.specs.Due.{address_to, body_of, notes_at, due}
 use Rattle.cds_server.specs.declared.notes.Notes.{Notes}
 use Rattle.cds_script.specs.declared.reply.HeldReply.TheVariants.{Named, Refusal}
 use Rattle.cds_script.specs.declared.turn.ScriptTurn.{ScriptTurn}
-use Rattle.cds_script.specs.declared.turn.ScriptTurn.TheVariants.{Folder, Track, Tag, Scan, Load, Read, Ask, First, At, Subscribe, Accept, Renew, Unsubscribe, Deliver, ReadFault}
+use Rattle.cds_script.specs.declared.turn.ScriptTurn.TheVariants.{Folder, Track, Tag, Scan, Load, Read, Ask, First, Wrap, At, Subscribe, Accept, Renew, Unsubscribe, Deliver, ReadFault}
 use Rattle.cds_script.specs.Report.{Played, first_of, clock_of, records_since, notes_text, sent_note, sent_text, scanned, given_up, with_renewal, lives}
 use Rattle.cds_script.specs.Script.{grant_at, granted_seconds, script_callback}
 use Rattle.cds_replay.specs.Lines.{note_line, sent_lines}
@@ -30,17 +32,17 @@ use Rattle.cds_replay.proofs.Numbers.{release-numbers}
 
 -- ---- lists of them
 
-pub sent-append : (one more : List SentNote) (notes others : List Telling) → AreSentAs one notes → AreSentAs more others → AreSentAs (one ++ more) (notes ++ others)
-sent-append [] more [] others are too = too
-sent-append [] more (note ∷ notes) others are too = absurd are
-sent-append (s ∷ one) more [] others are too = absurd are
-sent-append (s ∷ one) more (note ∷ notes) others are too = (are.0, sent-append one more notes others are.1 too)
+pub sent-append : (wrap : ℕ) (one more : List SentNote) (notes others : List Telling) → AreSentAs wrap one notes → AreSentAs wrap more others → AreSentAs wrap (one ++ more) (notes ++ others)
+sent-append wrap [] more [] others are too = too
+sent-append wrap [] more (note ∷ notes) others are too = absurd are
+sent-append wrap (s ∷ one) more [] others are too = absurd are
+sent-append wrap (s ∷ one) more (note ∷ notes) others are too = (are.0, sent-append wrap one more notes others are.1 too)
 
-pub sent-same : (sent : List SentNote) (notes others : List Telling) → notes ≡ others → AreSentAs sent notes → AreSentAs sent others
-sent-same sent notes others same are = subst (AreSentAs sent) same are
+pub sent-same : (wrap : ℕ) (sent : List SentNote) (notes others : List Telling) → notes ≡ others → AreSentAs wrap sent notes → AreSentAs wrap sent others
+sent-same wrap sent notes others same are = subst (AreSentAs wrap sent) same are
 
 -- without their containers they are the notes
-abbrev plain : List Telling → List Note
+abbrev pub plain : List Telling → List Note
 plain tellings = map (λ (telling : Telling). telling.note) tellings
 
 telling-notes : (containers : List (ℕ × ℕ)) (notes : List Note) → plain (all_telling containers notes) ≡ notes
@@ -51,20 +53,20 @@ plain-append : (one more : List Telling) → plain (one ++ more) ≡ plain one +
 plain-append [] more = refl
 plain-append (telling ∷ one) more = ap (λ l. telling.note ∷ l) (plain-append one more)
 
-tellings-notes : (first : ℕ) (commands : List Command) → plain (tellings_of first commands) ≡ notes_of first commands
+pub tellings-notes : (first : ℕ) (commands : List Command) → plain (tellings_of first commands) ≡ notes_of first commands
 tellings-notes first [] = refl
 tellings-notes first (command ∷ older) =
     plain-append (tellings_of first older) (tellings_by first older command)
     ∙ (λ i. tellings-notes first older i ++ telling-notes (containers_told first older command) (sent_by first older (notes_of first older) command) i)
 
-sent-length : (sent : List SentNote) (notes : List Telling) → AreSentAs sent notes → length sent ≡ length (plain notes)
-sent-length [] [] are = refl
-sent-length [] (note ∷ notes) are = absurd are
-sent-length (s ∷ sent) [] are = absurd are
-sent-length (s ∷ sent) (note ∷ notes) are = ap suc (sent-length sent notes are.1)
+sent-length : (wrap : ℕ) (sent : List SentNote) (notes : List Telling) → AreSentAs wrap sent notes → length sent ≡ length (plain notes)
+sent-length wrap [] [] are = refl
+sent-length wrap [] (note ∷ notes) are = absurd are
+sent-length wrap (s ∷ sent) [] are = absurd are
+sent-length wrap (s ∷ sent) (note ∷ notes) are = ap suc (sent-length wrap sent notes are.1)
 
-pub sent-count : (sent : List SentNote) (first : ℕ) (commands : List Command) → AreSentAs sent (tellings_of first commands) → length sent ≡ length (notes_of first commands)
-sent-count sent first commands are = sent-length sent (tellings_of first commands) are ∙ ap length (tellings-notes first commands)
+pub sent-count : (wrap : ℕ) (sent : List SentNote) (first : ℕ) (commands : List Command) → AreSentAs wrap sent (tellings_of first commands) → length sent ≡ length (notes_of first commands)
+sent-count wrap sent first commands are = sent-length wrap sent (tellings_of first commands) are ∙ ap length (tellings-notes first commands)
 
 -- ---- their lines
 
@@ -76,56 +78,56 @@ line-told : (k seq number : ℕ) (rest : List ℕ) →
     ≡ note_line k (record { seq = seq; number = number }) ++ rest
 line-told k seq number rest = last-three (codes "note " ++ decimal k ++ codes " seq " ++ decimal seq) (codes " at ") (decimal number) (codes "\n") rest
 
-lines-told : (k : ℕ) (sent : List SentNote) (notes : List Telling) → AreSentAs sent notes → sent_lines k sent ≡ notes_text k (plain notes)
-lines-told k [] [] are = refl
-lines-told k [] (note ∷ notes) are = absurd are
-lines-told k (s ∷ sent) [] are = absurd are
-lines-told k (s ∷ sent) (note ∷ notes) are =
-    (λ i. note_line k (record { seq = (are.0.to i).seq; number = are.0.number i }) ++ lines-told (k + 1) sent notes are.1 i)
-    ∙ sym (line-told k note.note.seq note.note.number (notes_text (k + 1) (plain notes)))
+lines-told : (wrap k : ℕ) (sent : List SentNote) (notes : List Telling) → AreSentAs wrap sent notes → sent_lines k sent ≡ notes_text wrap k (plain notes)
+lines-told wrap k [] [] are = refl
+lines-told wrap k [] (note ∷ notes) are = absurd are
+lines-told wrap k (s ∷ sent) [] are = absurd are
+lines-told wrap k (s ∷ sent) (note ∷ notes) are =
+    (λ i. note_line k (record { seq = (are.0.to i).seq; number = are.0.number i }) ++ lines-told wrap (k + 1) sent notes are.1 i)
+    ∙ sym (line-told k (seq_at wrap note.note.place) note.note.number (notes_text wrap (k + 1) (plain notes)))
 
 -- the lines of those that were added
-lines-after : (sent more : List SentNote) (notes others : List Telling) → AreSentAs sent notes → AreSentAs more others →
-    sent_lines (length sent + 1) (drop (length sent) (sent ++ more)) ≡ notes_text (length (plain notes) + 1) (plain others)
-lines-after sent more notes others are too =
+lines-after : (wrap : ℕ) (sent more : List SentNote) (notes others : List Telling) → AreSentAs wrap sent notes → AreSentAs wrap more others →
+    sent_lines (length sent + 1) (drop (length sent) (sent ++ more)) ≡ notes_text wrap (length (plain notes) + 1) (plain others)
+lines-after wrap sent more notes others are too =
     ap (sent_lines (length sent + 1)) (drop-append_seam sent more)
-    ∙ lines-told (length sent + 1) more others too
-    ∙ ap (λ n. notes_text (n + 1) (plain others)) (sent-length sent notes are)
+    ∙ lines-told wrap (length sent + 1) more others too
+    ∙ ap (λ n. notes_text wrap (n + 1) (plain others)) (sent-length wrap sent notes are)
 
-pub lines-added : (sent more : List SentNote) (first : ℕ) (commands : List Command) (command : Command) → AreSentAs sent (tellings_of first commands) →
-    AreSentAs more (tellings_by first commands command) → sent_lines (length sent + 1) (drop (length sent) (sent ++ more)) ≡ sent_text first commands command
-lines-added sent more first commands command are too =
-    lines-after sent more (tellings_of first commands) (tellings_by first commands command) are too
-    ∙ (λ i. notes_text (length (tellings-notes first commands i) + 1)
+pub lines-added : (wrap : ℕ) (sent more : List SentNote) (first : ℕ) (commands : List Command) (command : Command) → AreSentAs wrap sent (tellings_of first commands) →
+    AreSentAs wrap more (tellings_by first commands command) → sent_lines (length sent + 1) (drop (length sent) (sent ++ more)) ≡ sent_text wrap first commands command
+lines-added wrap sent more first commands command are too =
+    lines-after wrap sent more (tellings_of first commands) (tellings_by first commands command) are too
+    ∙ (λ i. notes_text wrap (length (tellings-notes first commands i) + 1)
     (telling-notes (containers_told first commands command) (sent_by first commands (notes_of first commands) command) i))
 
-pub lines-none : (sent more : List SentNote) (first : ℕ) (commands : List Command) → AreSentAs sent (tellings_of first commands) → AreSentAs more [] →
+pub lines-none : (wrap : ℕ) (sent more : List SentNote) (first : ℕ) (commands : List Command) → AreSentAs wrap sent (tellings_of first commands) → AreSentAs wrap more [] →
     sent_lines (length sent + 1) (drop (length sent) (sent ++ more)) ≡ []
-lines-none sent more first commands are too = lines-after sent more (tellings_of first commands) [] are too
+lines-none wrap sent more first commands are too = lines-after wrap sent more (tellings_of first commands) [] are too
 
 -- ---- the one of a number
 
-abbrev pub IsAt : Option SentNote → Option Note → Type 0
-IsAt None None = Unit {0}
-IsAt None (Some note) = ⊥
-IsAt (Some sent) None = ⊥
-IsAt (Some sent) (Some note) = (containers : List (ℕ × ℕ)) × IsSentAs sent note containers
+abbrev pub IsAt : ℕ → Option SentNote → Option Note → Type 0
+IsAt wrap None None = Unit {0}
+IsAt wrap None (Some note) = ⊥
+IsAt wrap (Some sent) None = ⊥
+IsAt wrap (Some sent) (Some note) = (containers : List (ℕ × ℕ)) × IsSentAs wrap sent note containers
 
-place-at : (sent : List SentNote) (notes : List Telling) → AreSentAs sent notes → (n : ℕ) → IsAt (slice_get sent n) (slice_get (plain notes) n)
-place-at [] [] are n = tt
-place-at [] (note ∷ notes) are n = absurd are
-place-at (s ∷ sent) [] are n = absurd are
-place-at (s ∷ sent) (note ∷ notes) are zero = (note.containers, are.0)
-place-at (s ∷ sent) (note ∷ notes) are (suc n) = place-at sent notes are.1 n
+place-at : (wrap : ℕ) (sent : List SentNote) (notes : List Telling) → AreSentAs wrap sent notes → (n : ℕ) → IsAt wrap (slice_get sent n) (slice_get (plain notes) n)
+place-at wrap [] [] are n = tt
+place-at wrap [] (note ∷ notes) are n = absurd are
+place-at wrap (s ∷ sent) [] are n = absurd are
+place-at wrap (s ∷ sent) (note ∷ notes) are zero = (note.containers, are.0)
+place-at wrap (s ∷ sent) (note ∷ notes) are (suc n) = place-at wrap sent notes are.1 n
 
-pub number-at : (sent : List SentNote) (first : ℕ) (commands : List Command) → AreSentAs sent (tellings_of first commands) → (number : ℕ) →
-    IsAt (sent_of number sent) (sent_note number (notes_of first commands))
-number-at sent first commands are number =
-    subst (λ (notes : List Note). IsAt (sent_of number sent) (sent_note number notes)) (tellings-notes first commands) (by (nat_eq number 0))
+pub number-at : (wrap : ℕ) (sent : List SentNote) (first : ℕ) (commands : List Command) → AreSentAs wrap sent (tellings_of first commands) → (number : ℕ) →
+    IsAt wrap (sent_of number sent) (sent_note number (notes_of first commands))
+number-at wrap sent first commands are number =
+    subst (λ (notes : List Note). IsAt wrap (sent_of number sent) (sent_note number notes)) (tellings-notes first commands) (by (nat_eq number 0))
   where
-    by : (b : Bool) → IsAt (cond b None (slice_get sent (number - 1))) (cond b None (slice_get (plain (tellings_of first commands)) (number - 1)))
+    by : (b : Bool) → IsAt wrap (cond b None (slice_get sent (number - 1))) (cond b None (slice_get (plain (tellings_of first commands)) (number - 1)))
     by true = tt
-    by false = place-at sent (tellings_of first commands) are (number - 1)
+    by false = place-at wrap sent (tellings_of first commands) are (number - 1)
 
 -- ---- each grant of a script has its callback
 
@@ -169,17 +171,17 @@ scanned-call (BadRecord line) records commands all = all
 scanned-call (TooMany objects) records commands all = all
 scanned-call (NoNumbers needed) records commands all = all
 
-ended-call : (first now : ℕ) (commands : List Command) (o : Option ℕ) → AllCall commands → AllCall (given_up o first now commands)
+ended-call : (first now : ℕ) (commands : List Command) (o : Option ℕ) → AllCall commands → AllCall (given_up o now commands)
 ended-call first now commands None all = all
-ended-call first now commands (Some name) all = by (lives name first now commands)
+ended-call first now commands (Some name) all = by (lives name now commands)
   where
     by : (b : Bool) → AllCall (cond b (Ends now name ∷ commands) commands)
     by true = all
     by false = all
 
-renewed-call : (first now : ℕ) (commands : List Command) (o : Option ℕ) → AllCall commands → AllCall (with_renewal o first now commands)
+renewed-call : (first now : ℕ) (commands : List Command) (o : Option ℕ) → AllCall commands → AllCall (with_renewal o now commands)
 renewed-call first now commands None all = all
-renewed-call first now commands (Some name) all = by (lives name first now commands)
+renewed-call first now commands (Some name) all = by (lives name now commands)
   where
     by : (b : Bool) → AllCall (cond b (Renews now name granted_seconds ∷ commands) commands)
     by true = all
@@ -195,14 +197,15 @@ one-call read first now records p Load all = all
 one-call read first now records p Read all = all
 one-call read first now records p Ask all = all
 one-call read first now records p (First number) all = all
+one-call read first now records p (Wrap number) all = all
 one-call read first now records p (At moment) all = all
-one-call read first now records p Subscribe all = by (has_room now p.commands (notes_of first p.commands))
+one-call read first now records p Subscribe all = by (has_room now p.commands)
   where
     granting : Played
-    granting = record { commands = grant_at now ∷ p.commands; replica = Requests ∷ p.replica; reply = Named (granted p.commands + 1) }
+    granting = record p { commands = grant_at now ∷ p.commands; replica = Requests ∷ p.replica; reply = Named (granted p.commands + 1) }
 
     refusing : Played
-    refusing = record { commands = p.commands; replica = Requests ∷ p.replica; reply = Refusal }
+    refusing = record p { replica = Requests ∷ p.replica; reply = Refusal }
 
     by : (b : Bool) → AllCall (cond b granting refusing).commands
     by true = (refl, all)
@@ -220,11 +223,10 @@ steps-call (step ∷ older) =
 
 -- ---- the notes of a tick
 
--- the names of subscriptions that live are those of grants, and have a SEQ left
-pub record IsLiving (commands : List Command) (notes : List Note) (name : ℕ) : Type 0 where
+-- the names of subscriptions that live are those of grants
+pub record IsLiving (commands : List Command) (name : ℕ) : Type 0 where
   pub some : 1 ≤ name
   pub low : name ≤ granted commands
-  pub seq : next_seq_of name notes < seq_limit
 
 each-living : (test : ℕ → Bool) (P : ℕ → Type 0) (from many most : ℕ) → from + many ≤ most + 1 → ((n : ℕ) → from ≤ n → n ≤ most → test n ≡ true → P n) →
     AllByRecursion P (filter test (range_with_len from many))
@@ -239,34 +241,39 @@ each-living test P from (suc many) most l holds =
     by true e rest = (holds from (omega arith) (omega (arith, l)) e, rest)
     by false e rest = rest
 
-pub all-living : (now : ℕ) (commands : List Command) (notes : List Note) → AllByRecursion (IsLiving commands notes) (alive_names now commands notes)
-all-living now commands notes =
-    each-living (λ name. is_alive name now commands && nat_lt (next_seq_of name notes) seq_limit) (IsLiving commands notes) 1 (granted commands) (granted commands) (omega arith)
-    (λ n low high is. record { some = low; low = high; seq = ltb-true (next_seq_of n notes) seq_limit (and_parts (is_alive n now commands) (nat_lt (next_seq_of n notes) seq_limit) is).1 })
+pub all-living : (now : ℕ) (commands : List Command) → AllByRecursion (IsLiving commands) (alive_names now commands)
+all-living now commands =
+    each-living (λ name. is_alive name now commands) (IsLiving commands) 1 (granted commands) (granted commands) (omega arith)
+    (λ n low high is. record { some = low; low = high })
 
-module _ (first : ℕ) (commands : List Command) (release : Release) (all : AllCall commands) (few : granted commands < 2 ^ 32)
+-- a SEQ is not above the wrap
+pub seq-low : (wrap place : ℕ) → 0 < wrap → wrap ≤ 4294967295 → seq_at wrap place < 2 ^ 32
+seq-low wrap zero some low = omega arith
+seq-low wrap (suc k) some low = let below = mod_below k wrap some in omega (arith, below, low)
+
+module _ (wrap first : ℕ) (some : 0 < wrap) (low : wrap ≤ 4294967295) (commands : List Command) (release : Release) (all : AllCall commands) (few : granted commands < 2 ^ 32)
     (numbers : AreNumbers release.to (released_containers (scans_of first commands) release) (Rattle.cds_changes.specs.Events.events_between (scans_of first commands) release.from release.to))
-    (short : length (body_of (script_start first) commands release) < 66000000) where
+    (short : length (body_of (script_start wrap first) commands release) < 66000000) where
   abbrev notes : List Note
   notes = notes_of first commands
 
-  one-sent : (name : ℕ) → IsLiving commands notes name →
-      IsSentAs (sent_to release.to (body_of (script_start first) commands release) (address_to (script_start first) commands (released_note (scans_of first commands) release notes name)))
+  one-sent : (name : ℕ) → IsLiving commands name →
+      IsSentAs wrap (sent_to release.to (body_of (script_start wrap first) commands release) (address_to (script_start wrap first) commands (released_note (scans_of first commands) release notes name)))
       (released_note (scans_of first commands) release notes name) (released_containers (scans_of first commands) release)
   one-sent name is = record {
-    to = ap (λ (o : Option (List ℕ)). record { sid = record { 0 = script_names name }; callback = unwrap_or o []; seq = next_seq_of name notes })
+    to = ap (λ (o : Option (List ℕ)). record { sid = record { 0 = script_names name }; callback = unwrap_or o []; seq = seq_at wrap (next_place_of name notes) })
         (called name commands all is.some is.low);
     number = refl;
     body = refl;
     numbers = numbers;
     short = short;
     name = let l = is.low in omega (arith, l, few);
-    seq = is.seq;
+    seq = seq-low wrap (next_place_of name notes) some low;
   }
 
-  pub all-sent : (names : List ℕ) → AllByRecursion (IsLiving commands notes) names →
-      AreSentAs
-      (map (sent_to release.to (body_of (script_start first) commands release)) (map (address_to (script_start first) commands) (map (released_note (scans_of first commands) release notes) names)))
+  pub all-sent : (names : List ℕ) → AllByRecursion (IsLiving commands) names →
+      AreSentAs wrap
+      (map (sent_to release.to (body_of (script_start wrap first) commands release)) (map (address_to (script_start wrap first) commands) (map (released_note (scans_of first commands) release notes) names)))
       (all_telling (released_containers (scans_of first commands) release) (map (released_note (scans_of first commands) release notes) names))
   all-sent [] living = tt
   all-sent (name ∷ names) living = (one-sent name living.0, all-sent names living.1)
@@ -275,18 +282,18 @@ module _ (first : ℕ) (commands : List Command) (release : Release) (all : AllC
 abbrev pub IsShort : Option Notes → Type 0
 IsShort o = IfSome o (λ (notes : Notes). length notes.body < 66000000)
 
-pub tick-sent : (first now : ℕ) (commands : List Command) (o : Option Notes) → AllCall commands → granted commands < 2 ^ 32 → AreAccepted first commands →
-    o ≡ due (script_start first) commands now → IsShort o → AreSentAs (sent_notes o) (tellings_by first commands (Ticks now))
-tick-sent first now commands o all few accepted is short =
+pub tick-sent : (wrap first now : ℕ) → 0 < wrap → wrap ≤ 4294967295 → (commands : List Command) (o : Option Notes) → AllCall commands → granted commands < 2 ^ 32 → AreAccepted first commands →
+    o ≡ due (script_start wrap first) commands now → IsShort o → AreSentAs wrap (sent_notes o) (tellings_by first commands (Ticks now))
+tick-sent wrap first now some low commands o all few accepted is short =
     by (release_at now history (releases_of first commands)) refl (subst (λ (n : Option Notes). IsShort n) is short)
     (λ (r : Option Release) (e : release_at now history (releases_of first commands) ≡ r).
-    is ∙ ap (λ (x : Option Release). option_map (notes_at (script_start first) commands now) x) e)
+    is ∙ ap (λ (x : Option Release). option_map (notes_at (script_start wrap first) commands now) x) e)
   where
     history : History
     history = scans_of first commands
 
     names : List ℕ
-    names = alive_names now commands (notes_of first commands)
+    names = alive_names now commands
 
     sends : (r : Option Release) → List Note
     sends r = released_notes history r (notes_of first commands) names
@@ -294,16 +301,16 @@ tick-sent first now commands o all few accepted is short =
     tells : (r : Option Release) → List Telling
     tells r = all_telling (release_tells history r) (sends r)
 
-    by : (r : Option Release) → release_at now history (releases_of first commands) ≡ r → IsShort (due (script_start first) commands now) →
-        ((r : Option Release) → release_at now history (releases_of first commands) ≡ r → o ≡ option_map (notes_at (script_start first) commands now) r) →
-        AreSentAs (sent_notes o) (tellings_by first commands (Ticks now))
-    by None e s told = subst (λ (x : Option Notes). AreSentAs (sent_notes x) (tells (release_at now history (releases_of first commands)))) (sym (told None e))
-        (subst (λ (x : Option Release). AreSentAs [] (tells x)) (sym e) tt)
+    by : (r : Option Release) → release_at now history (releases_of first commands) ≡ r → IsShort (due (script_start wrap first) commands now) →
+        ((r : Option Release) → release_at now history (releases_of first commands) ≡ r → o ≡ option_map (notes_at (script_start wrap first) commands now) r) →
+        AreSentAs wrap (sent_notes o) (tellings_by first commands (Ticks now))
+    by None e s told = subst (λ (x : Option Notes). AreSentAs wrap (sent_notes x) (tells (release_at now history (releases_of first commands)))) (sym (told None e))
+        (subst (λ (x : Option Release). AreSentAs wrap [] (tells x)) (sym e) tt)
     by (Some release) e s told =
-        subst (λ (x : Option Notes). AreSentAs (sent_notes x) (tells (release_at now history (releases_of first commands)))) (sym (told (Some release) e))
-        (subst (λ (x : Option Release). AreSentAs (sent_notes (Some (notes_at (script_start first) commands now release))) (tells x)) (sym e)
-        (subst (λ (l : List Note). AreSentAs (map (sent_to release.to (body_of (script_start first) commands release)) (map (address_to (script_start first) commands) l)) (tells (Some release)))
+        subst (λ (x : Option Notes). AreSentAs wrap (sent_notes x) (tells (release_at now history (releases_of first commands)))) (sym (told (Some release) e))
+        (subst (λ (x : Option Release). AreSentAs wrap (sent_notes (Some (notes_at (script_start wrap first) commands now release))) (tells x)) (sym e)
+        (subst (λ (l : List Note). AreSentAs wrap (map (sent_to release.to (body_of (script_start wrap first) commands release)) (map (address_to (script_start wrap first) commands) l)) (tells (Some release)))
         (ap sends (sym e))
-        (all-sent first commands release all few (release-numbers now history (releases_of first commands) release accepted.numbers e)
-        (subst (λ (x : Option Release). IsShort (option_map (notes_at (script_start first) commands now) x)) e s)
-        names (all-living now commands (notes_of first commands)))))
+        (all-sent wrap first some low commands release all few (release-numbers now history (releases_of first commands) release accepted.numbers e)
+        (subst (λ (x : Option Release). IsShort (option_map (notes_at (script_start wrap first) commands now) x)) e s)
+        names (all-living now commands))))

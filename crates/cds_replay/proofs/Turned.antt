@@ -6,7 +6,7 @@ use Rattle.cds_object.specs.declared.info.Comment.{Comment}
 use Rattle.cds_load.specs.declared.exchange.Shown.{Shown}
 use Rattle.cds_catalog.specs.Scans.{ScanAnswer, Accepted, BadRecord, TooMany, NoNumbers, scan_answer}
 use Rattle.cds_commands.specs.Commands.{Command, Renews, Ends, scans_of}
-use Rattle.cds_commands.specs.Notes.{has_room, notes_of}
+use Rattle.cds_commands.specs.Notes.{has_room}
 use Rattle.cds_commands.specs.Subscriptions.{granted}
 use Rattle.cds_gena.specs.Subscribed.{Subscribed}
 use Rattle.cds_follow.specs.Inbox.{Requests, accepted}
@@ -15,7 +15,7 @@ use Rattle.cds_replica.specs.State.{StandsFor}
 use Rattle.cds_script.specs.declared.found.Found.{Found}
 use Rattle.cds_script.specs.declared.reply.HeldReply.TheVariants.{Named, Refusal}
 use Rattle.cds_script.specs.declared.turn.ScriptTurn.{ScriptTurn}
-use Rattle.cds_script.specs.declared.turn.ScriptTurn.TheVariants.{Folder, Track, Tag, Scan, Load, Read, Ask, First, At, Subscribe, Accept, Renew, Unsubscribe, Deliver, ReadFault}
+use Rattle.cds_script.specs.declared.turn.ScriptTurn.TheVariants.{Folder, Track, Tag, Scan, Load, Read, Ask, First, Wrap, At, Subscribe, Accept, Renew, Unsubscribe, Deliver, ReadFault}
 use Rattle.cds_script.specs.Report.{Played, number_of, first_of, clock_of, records_since, found_since, last_commented, scanned, given_up, with_renewal, lives}
 use Rattle.cds_script.specs.Script.{IsInRange, grant_at, granted_seconds, moment_limit}
 use Rattle.cds_server.specs.Serving.{StandsFor as ServerStandsFor}
@@ -38,6 +38,7 @@ last-some Load older e = cc
 last-some Read older e = cc
 last-some Ask older e = cc
 last-some (First n) older e = cc
+last-some (Wrap n) older e = cc
 last-some (At n) older e = cc
 last-some Subscribe older e = cc
 last-some Accept older e = cc
@@ -46,26 +47,27 @@ last-some Unsubscribe older e = cc
 last-some (Deliver n) older e = cc
 last-some ReadFault older e = cc
 
--- after a turn that names no first number
+-- after a turn that names neither a first number nor a wrap
 pub turned : (was new : Playing) (step : ReplayStep) (steps : List ReplayStep) → IsAfter was steps → number_of step.turn ≡ 0 → may_stand_by steps step.turn ≡ true →
     IsInRange step.turn → refuses steps step ≡ false →
-    ServerStandsFor new.server (script_start (first_of (turns_in steps))) (played_by (step ∷ steps)).commands →
-    StandsFor new.replica (named script_names (played_by (step ∷ steps)).replica) →
-    AreSentAs new.sent (tellings_of (first_of (turns_in steps)) (played_by (step ∷ steps)).commands) →
+    ServerStandsFor new.server (script_start (played_by (step ∷ steps)).wrap (first_of (turns_in steps))) (played_by (step ∷ steps)).commands →
+    StandsFor new.replica (played_by (step ∷ steps)).wrap (named script_names (played_by (step ∷ steps)).replica) →
+    AreSentAs (played_by (step ∷ steps)).wrap new.sent (tellings_of (first_of (turns_in steps)) (played_by (step ∷ steps)).commands) →
     new.found ≡ found_since (turns_in (step ∷ steps)) → new.clock ≡ clock_of (turns_in (step ∷ steps)) → IsHeldAs new.reply (played_by (step ∷ steps)).reply →
-    new.last ≡ last_of (turns_in (step ∷ steps)) → IsAfter new (step ∷ steps)
-turned was new step steps after none stands plain takes server replica sent found clock reply last = record {
+    new.last ≡ last_of (turns_in (step ∷ steps)) → new.wrap ≡ (played_by (step ∷ steps)).wrap → IsAfter new (step ∷ steps)
+turned was new step steps after none stands plain takes server replica sent found clock reply last wrap = record {
   may = record {
     stand = (stands, plain, takes, after.may.stand);
     number = subst (λ n. n ≤ 4294967295) (sym (first-more step.turn (turns_in steps) none)) after.may.number;
   };
-  server = subst (λ n. ServerStandsFor new.server (script_start n) (played_by (step ∷ steps)).commands) (sym (first-more step.turn (turns_in steps) none)) server;
+  server = subst (λ n. ServerStandsFor new.server (script_start (played_by (step ∷ steps)).wrap n) (played_by (step ∷ steps)).commands) (sym (first-more step.turn (turns_in steps) none)) server;
   replica = replica;
-  sent = subst (λ n. AreSentAs new.sent (tellings_of n (played_by (step ∷ steps)).commands)) (sym (first-more step.turn (turns_in steps) none)) sent;
+  sent = subst (λ n. AreSentAs (played_by (step ∷ steps)).wrap new.sent (tellings_of n (played_by (step ∷ steps)).commands)) (sym (first-more step.turn (turns_in steps) none)) sent;
   found = found;
   clock = clock;
   reply = reply;
   last = last;
+  wrap = wrap;
 }
 
 -- ---- how much a step can raise
@@ -77,17 +79,17 @@ scanned-granted (BadRecord line) records commands = refl
 scanned-granted (TooMany objects) records commands = refl
 scanned-granted (NoNumbers needed) records commands = refl
 
-pub ended-granted : (first now : ℕ) (commands : List Command) (o : Option ℕ) → granted (given_up o first now commands) ≡ granted commands
+pub ended-granted : (first now : ℕ) (commands : List Command) (o : Option ℕ) → granted (given_up o now commands) ≡ granted commands
 ended-granted first now commands None = refl
-ended-granted first now commands (Some name) = by (lives name first now commands)
+ended-granted first now commands (Some name) = by (lives name now commands)
   where
     by : (b : Bool) → granted (cond b (Ends now name ∷ commands) commands) ≡ granted commands
     by true = refl
     by false = refl
 
-pub renewed-granted : (first now : ℕ) (commands : List Command) (o : Option ℕ) → granted (with_renewal o first now commands) ≡ granted commands
+pub renewed-granted : (first now : ℕ) (commands : List Command) (o : Option ℕ) → granted (with_renewal o now commands) ≡ granted commands
 renewed-granted first now commands None = refl
-renewed-granted first now commands (Some name) = by (lives name first now commands)
+renewed-granted first now commands (Some name) = by (lives name now commands)
   where
     by : (b : Bool) → granted (cond b (Renews now name granted_seconds ∷ commands) commands) ≡ granted commands
     by true = refl
@@ -103,14 +105,15 @@ one-granted read first now records p Load = omega arith
 one-granted read first now records p Read = omega arith
 one-granted read first now records p Ask = omega arith
 one-granted read first now records p (First number) = omega arith
+one-granted read first now records p (Wrap number) = omega arith
 one-granted read first now records p (At moment) = omega arith
-one-granted read first now records p Subscribe = by (has_room now p.commands (notes_of first p.commands))
+one-granted read first now records p Subscribe = by (has_room now p.commands)
   where
     granting : Played
-    granting = record { commands = grant_at now ∷ p.commands; replica = Requests ∷ p.replica; reply = Named (granted p.commands + 1) }
+    granting = record p { commands = grant_at now ∷ p.commands; replica = Requests ∷ p.replica; reply = Named (granted p.commands + 1) }
 
     refusing : Played
-    refusing = record { commands = p.commands; replica = Requests ∷ p.replica; reply = Refusal }
+    refusing = record p { replica = Requests ∷ p.replica; reply = Refusal }
 
     by : (b : Bool) → granted (cond b granting refusing).commands ≤ granted p.commands + 1
     by true = omega arith
@@ -138,6 +141,7 @@ one-found Load older = omega arith
 one-found Read older = omega arith
 one-found Ask older = omega arith
 one-found (First n) older = omega arith
+one-found (Wrap n) older = omega arith
 one-found (At n) older = omega arith
 one-found Subscribe older = omega arith
 one-found Accept older = omega arith
@@ -156,6 +160,7 @@ moment-within Load older fits low = low
 moment-within Read older fits low = low
 moment-within Ask older fits low = low
 moment-within (First n) older fits low = low
+moment-within (Wrap n) older fits low = low
 moment-within (At n) older fits low = fits
 moment-within Subscribe older fits low = low
 moment-within Accept older fits low = low

@@ -1,5 +1,5 @@
 -- Over a wire that leaves each reply as it is nothing is refused, and a script ends as scripts do: all that is said of them is cited.
-use Rattle.std.proofs.Common.{◌≡◌, ◌⊎◌, inl, inr, ℕ, ◌+◌, ◌≤◌, List, [], ◌∷◌, ◌++◌, length, take, Bool, true, false, cond, nat_lt, nat_le, ◌&&◌, Option, Some, None, refl, ap, sym, subst, ◌∙◌, arith, codes}
+use Rattle.std.proofs.Common.{◌≡◌, ◌⊎◌, inl, inr, ℕ, ◌+◌, ◌≤◌, List, [], ◌∷◌, length, take, Bool, true, false, cond, nat_lt, nat_le, ◌&&◌, Option, Some, None, refl, ap, sym, subst, ◌∙◌, arith, codes}
 use Rattle.std.specs.List.{AllByRecursion}
 use Rattle.std.proofs.lemmas.List.{append-nil}
 use Rattle.cds_object.specs.Object.{ObjectRow}
@@ -13,23 +13,28 @@ use Rattle.cds_exchange.proofs.Honest.{honest-replies-are-read}
 use Rattle.cds_exchange.proofs.Moments.{moments-can-be-shown}
 use Rattle.cds_exchange.proofs.Bases.{hosts-make-bases}
 use Rattle.cds_commands.specs.Notes.{Note, notes_of}
-use Rattle.cds_follow.specs.Inbox.{ReplicaTurn, Accepts, Delivers, Arrival, IsUnknown, IsRepeat, IsTooMany, IsEarly, IsHeld, IsNext, arrival, taken_by}
-use Rattle.cds_follow.specs.Follow.{Known, known_by, next_ask, with_reply, with_notes, says, copied}
+use Rattle.cds_follow.specs.Inbox.{ReplicaTurn, Accepts, Delivers, Arrival, IsUnknown, IsRepeat, IsTooMany, IsEarly, IsHeld, IsNext, taken_by}
+use Rattle.cds_follow.specs.Follow.{Known, known_by, next_ask, with_reply, with_notes, is_refused, says, copied}
+use Rattle.cds_follow.specs.Wire.{placed, heard, says_by_seq, says_on_wire, arrival_on_wire}
+use Rattle.cds_follow.proofs.Wire.{placed-or-unknown}
+use Rattle.cds_commands.specs.Wire.{on_wire}
 use Rattle.cds_follow.specs.Given.{moment_after, asked_at}
 use Rattle.cds_follow.specs.declared.says.Says.{Says}
 use Rattle.cds_follow.specs.declared.says.Says.TheVariants.{Gap, BehindLoad, BehindRead, BehindVersion, Stands}
 use Rattle.cds_script.specs.Lines.{lines_of, ended_lines, script_limit, line_limit}
 use Rattle.cds_script.specs.Played.{MayBe}
-use Rattle.cds_script.specs.Report.{Played, Ending, script_token, first_of, clock_of, records_since, history_of, sent_note, play, played, read_text, written_by, answer_text, may_stand, written_first, outside_ending, limit_ending, ending_at, ending_from, script_ending}
+use Rattle.cds_script.specs.Report.{Played, Ending, script_token, first_of, clock_of, records_since, history_of, is_recent_one, sent_note, play, played, read_text, written_by, answer_text, may_stand, written_first, outside_ending, limit_ending, ending_at, ending_from, script_ending}
 use Rattle.cds_script.specs.Script.{IsInRange, MeansInRange, meaning_of}
 use Rattle.cds_script.specs.declared.reply.HeldReply.{HeldReply}
 use Rattle.cds_script.specs.declared.reply.HeldReply.TheVariants.{NoReply, Named, Refusal}
 use Rattle.cds_script.specs.declared.turn.Meaning.{Meaning}
 use Rattle.cds_script.specs.declared.turn.Meaning.TheVariants.{Nothing, Means, Outside}
 use Rattle.cds_script.specs.declared.turn.ScriptTurn.{ScriptTurn}
-use Rattle.cds_script.specs.declared.turn.ScriptTurn.TheVariants.{Folder, Track, Tag, Scan, Load, Read, Ask, First, At, Subscribe, Accept, Renew, Unsubscribe, Deliver, ReadFault}
+use Rattle.cds_script.specs.declared.turn.ScriptTurn.TheVariants.{Folder, Track, Tag, Scan, Load, Read, Ask, First, Wrap, At, Subscribe, Accept, Renew, Unsubscribe, Deliver, ReadFault}
 use Rattle.cds_script.proofs.MayBe.{lines-range}
 use Rattle.cds_script.proofs.Stood.{turns-taken, stands-at}
+use Rattle.cds_script.proofs.Wrapped.{wide}
+use Rattle.std.proofs.lemmas.Bool.{and_parts}
 use Rattle.cds_replay.specs.Lines.{known_text}
 use Rattle.cds_replay.specs.Wire.{WiredEnding, unrefused, refused_at, wired_first, script_base, server_reply, Either, IsLeftOf, IsReadBy, AreReadBy, EndsAtStep, EndsAtLine, EndsFrom, EndsOver, straight_wires_are_taken, straight_reports_are_the_scripts}
 use Rattle.cds_replay.specs.Wired.{ReplayStep, turns_in, and_read, play_read, played_by, moment_by, may_stand_by, refuses_read, refuses_reply, refuses_arrival, refuses_note, refuses_turn, refuses, read_text_by, written_read, written_on, AllStandBy}
@@ -79,6 +84,7 @@ low-more Load [] fits low = omega arith
 low-more Read [] fits low = omega arith
 low-more Ask [] fits low = omega arith
 low-more (First number) [] fits low = fits
+low-more (Wrap number) [] fits low = omega arith
 low-more (At moment) [] fits low = omega arith
 low-more Subscribe [] fits low = omega arith
 low-more Accept [] fits low = omega arith
@@ -106,13 +112,15 @@ stand-same older Load same = refl
 stand-same older Read same = refl
 stand-same older Ask same = refl
 stand-same older (First number) same = refl
+stand-same older (Wrap number) same = refl
 stand-same older (At moment) same = refl
 stand-same older Subscribe same = refl
 stand-same older Accept same = refl
 stand-same older Renew same = refl
 stand-same older Unsubscribe same = refl
 stand-same older (Deliver note) same =
-    ap (λ (p : Played). nat_lt 0 note && nat_le note (length (notes_of (first_of (turns_in older)) p.commands))) same
+    ap (λ (p : Played). (nat_lt 0 note && nat_le note (length (notes_of (first_of (turns_in older)) p.commands)))
+    && is_recent_one p.wrap (sent_note note (notes_of (first_of (turns_in older)) p.commands)) p.replica) same
 stand-same older ReadFault same = refl
 
 module _ (carried : List ℕ → List ℕ) (straight : (bytes : List ℕ) → carried bytes ≡ bytes) where
@@ -135,10 +143,11 @@ module _ (carried : List ℕ → List ℕ) (straight : (bytes : List ℕ) → ca
   play-same older Load read is at = refl
   play-same older Read read is at =
       let p : Played = played (turns_in older) in
-      ap (λ (turns : List ReplicaTurn). record { commands = p.commands; replica = turns; reply = p.reply })
+      ap (λ (turns : List ReplicaTurn). record { commands = p.commands; replica = turns; reply = p.reply; wrap = p.wrap })
       (honest-turns (moment_after script_token (first_of (turns_in older)) p.commands) (next_ask (known_by p.replica)) read p.replica (read-honest older read is at))
   play-same older Ask read is at = refl
   play-same older (First number) read is at = refl
+  play-same older (Wrap number) read is at = refl
   play-same older (At moment) read is at = refl
   play-same older Subscribe read is at = refl
   play-same older Accept read is at = refl
@@ -162,39 +171,50 @@ module _ (carried : List ℕ → List ℕ) (straight : (bytes : List ℕ) → ca
   arrival-takes (IsHeld missing) outcome now is = refl
   arrival-takes IsNext outcome now is = ap is_no is
 
-  note-takes : (o : Option Note) (turns : List ReplicaTurn) →
-      ((note : Note) → o ≡ Some note → (now : Known) × (with_notes (taken_by (Delivers note) turns) (known_by turns) ≡ Goes now)) → refuses_note o turns ≡ false
-  note-takes None turns taken = refl
-  note-takes (Some note) turns taken =
-      let t = taken note refl in arrival-takes (arrival note turns) (with_notes (taken_by (Delivers note) turns) (known_by turns)) t.0 t.1
+  note-takes : (wrap : ℕ) (o : Option Note) (turns : List ReplicaTurn) → 256 ≤ wrap → is_recent_one wrap o turns ≡ true →
+      ((note : Note) → o ≡ Some note → (now : Known) × (with_notes (taken_by (Delivers note) turns) (known_by turns) ≡ Goes now)) → refuses_note wrap o turns ≡ false
+  note-takes wrap None turns wide recent taken = refl
+  note-takes wrap (Some note) turns wide recent taken = by (placed-or-unknown wrap note turns wide recent)
+    where
+      by : (placed wrap (on_wire wrap note) turns ≡ Some note)
+          ⊎ ((arrival_on_wire wrap (on_wire wrap note) turns ≡ IsUnknown)
+          × ((other : Note) → placed wrap (on_wire wrap note) turns ≡ Some other → is_refused (Delivers other) turns ≡ true)) →
+          refuses_note wrap (Some note) turns ≡ false
+      by (inl own) =
+          let t = taken note refl in
+          arrival-takes (arrival_on_wire wrap (on_wire wrap note) turns) (heard (placed wrap (on_wire wrap note) turns) turns) t.0 (ap (λ (o : Option Note). heard o turns) own ∙ t.1)
+      by (inr away) = ap (λ (a : Arrival). refuses_arrival a (heard (placed wrap (on_wire wrap note) turns) turns)) away.0
 
-  turn-takes : (older : List ReplayStep) (turn : ScriptTurn) (read : Option Shown) → IsStraight older → IsReadBy carried older turn read →
+  turn-takes : (older : List ReplayStep) (turn : ScriptTurn) (read : Option Shown) → IsStraight older → may_stand (turns_in older) turn ≡ true → IsReadBy carried older turn read →
       refuses_turn read (first_of (turns_in older)) (played (turns_in older)) turn ≡ false
-  turn-takes older (Folder path) read is at = refl
-  turn-takes older (Track path info size) read is at = refl
-  turn-takes older (Tag comment) read is at = refl
-  turn-takes older Scan read is at = refl
-  turn-takes older Load read is at = refl
-  turn-takes older Read read is at =
+  turn-takes older (Folder path) read is stands at = refl
+  turn-takes older (Track path info size) read is stands at = refl
+  turn-takes older (Tag comment) read is stands at = refl
+  turn-takes older Scan read is stands at = refl
+  turn-takes older Load read is stands at = refl
+  turn-takes older Read read is stands at =
       let p : Played = played (turns_in older) in
       honest-takes (moment_after script_token (first_of (turns_in older)) p.commands) (next_ask (known_by p.replica)) read p.replica (read-honest older read is at)
       (turns-taken (turns_in older) is.may).reads
-  turn-takes older Ask read is at = refl
-  turn-takes older (First number) read is at = refl
-  turn-takes older (At moment) read is at = refl
-  turn-takes older Subscribe read is at = refl
-  turn-takes older Accept read is at =
+  turn-takes older Ask read is stands at = refl
+  turn-takes older (First number) read is stands at = refl
+  turn-takes older (Wrap number) read is stands at = refl
+  turn-takes older (At moment) read is stands at = refl
+  turn-takes older Subscribe read is stands at = refl
+  turn-takes older Accept read is stands at =
       reply-takes (played (turns_in older)).reply (played (turns_in older)).replica (turns-taken (turns_in older) is.may).names
-  turn-takes older Renew read is at = refl
-  turn-takes older Unsubscribe read is at = refl
-  turn-takes older (Deliver note) read is at =
-      note-takes (sent_note note (notes_of (first_of (turns_in older)) (played (turns_in older)).commands)) (played (turns_in older)).replica
+  turn-takes older Renew read is stands at = refl
+  turn-takes older Unsubscribe read is stands at = refl
+  turn-takes older (Deliver note) read is stands at =
+      note-takes (played (turns_in older)).wrap (sent_note note (notes_of (first_of (turns_in older)) (played (turns_in older)).commands)) (played (turns_in older)).replica
+      (wide (turns_in older) is.may.stand) (and_parts _ _ stands).1
       ((turns-taken (turns_in older) is.may).notes note)
-  turn-takes older ReadFault read is at = refl
+  turn-takes older ReadFault read is stands at = refl
 
-  step-takes : (older : List ReplayStep) (step : ReplayStep) → IsStraight older → IsReadBy carried older step.turn step.read → refuses older step ≡ false
-  step-takes older step is at =
-      ap (λ (p : Played). refuses_turn step.read (first_of (turns_in older)) p step.turn) is.same ∙ turn-takes older step.turn step.read is at
+  step-takes : (older : List ReplayStep) (step : ReplayStep) → IsStraight older → may_stand_by older step.turn ≡ true → IsReadBy carried older step.turn step.read → refuses older step ≡ false
+  step-takes older step is may at =
+      ap (λ (p : Played). refuses_turn step.read (first_of (turns_in older)) p step.turn) is.same
+      ∙ turn-takes older step.turn step.read is (sym (stand-same older step.turn is.same) ∙ may) at
 
   -- one more step
   more-straight : (older : List ReplayStep) (step : ReplayStep) → IsStraight older → may_stand_by older step.turn ≡ true → IsInRange step.turn →
@@ -217,19 +237,22 @@ module _ (carried : List ℕ → List ℕ) (straight : (bytes : List ℕ) → ca
   -- ---- what is written
 
   -- what a replica knows after turns is what they answer
-  ask-written : (turns : List ScriptTurn) → MayBe turns → known_text (says (played turns).replica) (copied (known_by (played turns).replica)) ≡ written_by turns Ask
+  ask-written : (turns : List ScriptTurn) → MayBe turns → known_text (says_on_wire (played turns).wrap (played turns).replica) (copied (known_by (played turns).replica)) ≡ written_by turns Ask
   ask-written turns may = by (says (played turns).replica) refl
     where
       rows : List ObjectRow
       rows = copied (known_by (played turns).replica)
 
-      by : (s : Says) → says (played turns).replica ≡ s → known_text (says (played turns).replica) rows ≡ written_by turns Ask
-      by (Gap missing) e = ap (λ s. known_text s rows) e ∙ sym (ap (answer_text (history_of turns)) e)
-      by BehindLoad e = ap (λ s. known_text s rows) e ∙ sym (ap (answer_text (history_of turns)) e)
-      by (BehindRead id) e = ap (λ s. known_text s rows) e ∙ sym (ap (answer_text (history_of turns)) e)
-      by (BehindVersion version) e = ap (λ s. known_text s rows) e ∙ sym (ap (answer_text (history_of turns)) e)
+      told : Says → Says
+      told answer = says_by_seq (played turns).wrap answer
+
+      by : (s : Says) → says (played turns).replica ≡ s → known_text (told (says (played turns).replica)) rows ≡ written_by turns Ask
+      by (Gap missing) e = ap (λ s. known_text (told s) rows) e ∙ sym (ap (λ s. answer_text (history_of turns) (told s)) e)
+      by BehindLoad e = ap (λ s. known_text (told s) rows) e ∙ sym (ap (λ s. answer_text (history_of turns) (told s)) e)
+      by (BehindRead id) e = ap (λ s. known_text (told s) rows) e ∙ sym (ap (λ s. answer_text (history_of turns) (told s)) e)
+      by (BehindVersion version) e = ap (λ s. known_text (told s) rows) e ∙ sym (ap (λ s. answer_text (history_of turns) (told s)) e)
       by (Stands number) e =
-          ap (λ s. known_text s rows) e
+          ap (λ s. known_text (told s) rows) e
           ∙ sym (stands-at turns may number e).1
 
   read-written : (moment : Moment) (o : Option Asked) (read : Option Shown) (turns : List ReplicaTurn) → IsHonest moment o read → read_text_by o read ≡ read_text moment o
@@ -248,6 +271,7 @@ module _ (carried : List ℕ → List ℕ) (straight : (bytes : List ℕ) → ca
       read-written (moment_after script_token (first_of (turns_in older)) p.commands) (next_ask (known_by p.replica)) read p.replica (read-honest older read is at)
   turn-written older Ask read is at = ask-written (turns_in older) is.may
   turn-written older (First number) read is at = refl
+  turn-written older (Wrap number) read is at = refl
   turn-written older (At moment) read is at = refl
   turn-written older Subscribe read is at = refl
   turn-written older Accept read is at = refl
@@ -277,7 +301,7 @@ module _ (carried : List ℕ → List ℕ) (straight : (bytes : List ℕ) → ca
       IsAs wired (written_first (written_by (turns_in older) step.turn) (go_on (step.turn ∷ turns_in older)))
   step-ends older step number Later go_on wired is may fits at continues ends =
       goes (subst (λ b. Either b (wired ≡ refused_at (step ∷ older) number)
-      ((later : WiredEnding) × Later (step ∷ older) later × (wired ≡ wired_first (written_on older step) later))) (step-takes older step is at) ends)
+      ((later : WiredEnding) × Later (step ∷ older) later × (wired ≡ wired_first (written_on older step) later))) (step-takes older step is may at) ends)
     where
       goes : (later : WiredEnding) × Later (step ∷ older) later × (wired ≡ wired_first (written_on older step) later) →
           IsAs wired (written_first (written_by (turns_in older) step.turn) (go_on (step.turn ∷ turns_in older)))
@@ -324,7 +348,7 @@ module _ (carried : List ℕ → List ℕ) (straight : (bytes : List ℕ) → ca
           (lines-range line) continues e
 
 pub straight-taken : straight_wires_are_taken
-straight-taken carried older step same may read stands at = step-takes carried same older step (all-straight carried same older may.stand read) at
+straight-taken carried older step same may read stands at = step-takes carried same older step (all-straight carried same older may.stand read) stands at
 
 -- the lines of a script and whether they are all of it, told by one test
 lines-told : (carried : List ℕ → List ℕ) (straight : (bytes : List ℕ) → carried bytes ≡ bytes) (bytes : List ℕ) (wired : WiredEnding) (b : Bool) →

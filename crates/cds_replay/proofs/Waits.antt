@@ -7,12 +7,12 @@ use Rattle.cds_commands.specs.Notes.{Note, has_room, notes_of}
 use Rattle.cds_commands.specs.Subscriptions.{granted}
 use Rattle.cds_follow.specs.Inbox.{ReplicaTurn, Begins, Shows, Requests, Delivers, is_out}
 use Rattle.cds_follow.specs.Follow.{known_by, next_ask}
-use Rattle.cds_script.specs.Report.{Played, first_of, clock_of, records_since, after_note, sent_note}
+use Rattle.cds_script.specs.Report.{Played, first_of, clock_of, records_since, after_note, reaching, sent_note}
 use Rattle.cds_script.specs.Script.{grant_at}
 use Rattle.cds_script.specs.declared.reply.HeldReply.{HeldReply}
 use Rattle.cds_script.specs.declared.reply.HeldReply.TheVariants.{NoReply, Named, Refusal}
 use Rattle.cds_script.specs.declared.turn.ScriptTurn.{ScriptTurn}
-use Rattle.cds_script.specs.declared.turn.ScriptTurn.TheVariants.{Folder, Track, Tag, Scan, Load, Read, Ask, First, At, Subscribe, Accept, Renew, Unsubscribe, Deliver, ReadFault}
+use Rattle.cds_script.specs.declared.turn.ScriptTurn.TheVariants.{Folder, Track, Tag, Scan, Load, Read, Ask, First, Wrap, At, Subscribe, Accept, Renew, Unsubscribe, Deliver, ReadFault}
 use Rattle.cds_script.proofs.Given.{out-and}
 use Rattle.cds_replay.specs.Session.{IsHeldAs}
 use Rattle.cds_replay.specs.Wired.{ReplayStep, turns_in, and_read, play_read, played_by}
@@ -49,14 +49,15 @@ one-waits read first now records p Read w =
     waits-on p.reply p.replica (and_read (next_ask (known_by p.replica)) read p.replica) (out-read (next_ask (known_by p.replica)) read p.replica) w
 one-waits read first now records p Ask w = w
 one-waits read first now records p (First number) w = w
+one-waits read first now records p (Wrap number) w = w
 one-waits read first now records p (At moment) w = w
-one-waits read first now records p Subscribe w = by (has_room now p.commands (notes_of first p.commands))
+one-waits read first now records p Subscribe w = by (has_room now p.commands)
   where
     granting : Played
-    granting = record { commands = grant_at now ∷ p.commands; replica = Requests ∷ p.replica; reply = Named (granted p.commands + 1) }
+    granting = record p { commands = grant_at now ∷ p.commands; replica = Requests ∷ p.replica; reply = Named (granted p.commands + 1) }
 
     refusing : Played
-    refusing = record { commands = p.commands; replica = Requests ∷ p.replica; reply = Refusal }
+    refusing = record p { replica = Requests ∷ p.replica; reply = Refusal }
 
     by : (b : Bool) → Waits (cond b granting refusing).reply (cond b granting refusing).replica
     by true = refl
@@ -65,7 +66,8 @@ one-waits read first now records p Accept w = tt
 one-waits read first now records p Renew w = w
 one-waits read first now records p Unsubscribe w = w
 one-waits read first now records p (Deliver note) w =
-    waits-on p.reply p.replica (after_note (sent_note note (notes_of first p.commands)) p.replica) (out-note (sent_note note (notes_of first p.commands)) p.replica) w
+    waits-on p.reply p.replica (after_note (reaching p.wrap p.replica (sent_note note (notes_of first p.commands))) p.replica)
+    (out-note (reaching p.wrap p.replica (sent_note note (notes_of first p.commands))) p.replica) w
 one-waits read first now records p ReadFault w = w
 
 all-waits : (steps : List ReplayStep) → Waits (played_by steps).reply (played_by steps).replica

@@ -4,7 +4,7 @@ use Rattle.std.specs.Prelude.{◌≡◌, ℕ, false, List, [], ◌∷◌, codes,
 use Rattle.url.specs.Parts.{Parts}
 use Rattle.url.specs.declared.host.Host.TheVariants.{Ipv4}
 use Rattle.cds_commands.specs.Commands.{Command, Start}
-use Rattle.cds_commands.specs.Notes.{Note}
+use Rattle.cds_commands.specs.Wire.{WireNote}
 use Rattle.cds_http.specs.declared.message.Message.{Message}
 use Rattle.cds_http.specs.declared.message.Side.{Side}
 use Rattle.cds_http.specs.declared.message.Side.TheVariants.{Request, Reply}
@@ -83,10 +83,10 @@ pub record IsAsked (start : Start) (commands : List Command) (now : ℕ) (reques
   pub has : HasStatus reply status
 
 -- bytes are the request that carries this note, under the name that it has there; or some note
-pub record IsNoteRequest (request : List ℕ) (note : Note) : Type 0 where
+pub record IsNoteRequest (request : List ℕ) (note : WireNote) : Type 0 where
   pub message : Message
   pub whole : Decides false Request request (Whole message [])
   pub is : IsNote message note
 
 abbrev pub CarriesNote : List ℕ → Type 0
-CarriesNote request = (note : Note) × IsNoteRequest request note
+CarriesNote request = (note : WireNote) × IsNoteRequest request note

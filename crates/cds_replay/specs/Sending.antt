@@ -1,7 +1,8 @@
 -- The notes that a script's server sent, as they go over the wire: the body of a release once, however many notes have it.
-use Rattle.std.specs.Prelude.{◌≡◌, ◌-◌, ◌<◌, ℕ, cond, nat_eq, List, [], ◌∷◌, map, length, Option, Some, None, unwrap_or, slice_get, IfSome}
+use Rattle.std.specs.Prelude.{◌≡◌, ◌-◌, ◌<◌, ℕ, cond, nat_eq, List, [], ◌∷◌, map, filter, take, length, Option, Some, None, unwrap_or, slice_get, IfSome}
 use Rattle.std.specs.List.{AllByRecursion}
 use Rattle.cds_gena.specs.declared.address.Address.{Address}
+use Rattle.cds_gena.specs.declared.sid.Sid.{Sid}
 use Rattle.cds_gena.specs.Asked.{url_in}
 use Rattle.cds_gena.specs.Subscribed.{IsDelivered}
 use Rattle.cds_notify.specs.Notify.{notify_text}
@@ -53,6 +54,14 @@ head_of note = record { seq = note.to.seq; number = note.number }
 -- the note of a number among all that were sent, counted from 1
 abbrev pub sent_of : ℕ → List SentNote → Option SentNote
 sent_of number notes = cond (nat_eq number 0) None (slice_get notes (number - 1))
+
+-- the name that a note goes to
+abbrev pub name_on : SentNote → Sid
+name_on note = note.to.sid
+
+-- how many notes before that of a number were sent to a name
+abbrev pub named_before : ℕ → ℕ → List SentNote → ℕ
+named_before sid number notes = length (filter (λ (note : SentNote). nat_eq note.to.sid.0 sid) (take (number - 1) notes))
 
 -- bytes are the request that carries a body to an address
 abbrev pub carries : Address → List ℕ → List ℕ → Type 0

@@ -22,7 +22,7 @@ use Rattle.cds_script.specs.declared.turn.Meaning.{Meaning}
 use Rattle.cds_script.specs.declared.turn.Meaning.TheVariants.{Nothing, Means, Outside}
 use Rattle.cds_script.specs.declared.turn.ScriptTurn.{ScriptTurn}
 use Rattle.cds_script.specs.declared.turn.ScriptTurn.TheVariants.{Read, Ask}
-use Rattle.cds_replay.specs.Wired.{ReplayStep, turns_in, played_by, moment_by, may_stand_by, refuses, written_on, MayBeBy}
+use Rattle.cds_replay.specs.Wired.{ReplayStep, played_by, moment_by, may_stand_by, refuses, written_on, MayBeBy}
 
 -- the URL that the bytes of tracks are under, for whoever asks a script's server
 abbrev pub script_base : List ℕ

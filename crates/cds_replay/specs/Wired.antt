@@ -6,11 +6,14 @@ use Rattle.cds_load.specs.Server.{Moment}
 use Rattle.cds_load.specs.declared.exchange.Ask.{Ask as Asked}
 use Rattle.cds_load.specs.declared.exchange.Shown.{Shown}
 use Rattle.cds_commands.specs.Notes.{Note, notes_of}
-use Rattle.cds_follow.specs.Inbox.{ReplicaTurn, Shows, Accepts, Delivers, Arrival, IsUnknown, IsRepeat, IsTooMany, IsEarly, IsHeld, IsNext, arrival, taken_by}
-use Rattle.cds_follow.specs.Follow.{Known, known_by, next_ask, says, copied, with_notes, is_refused}
+use Rattle.cds_commands.specs.Places.{last_seq}
+use Rattle.cds_commands.specs.Wire.{on_wire}
+use Rattle.cds_follow.specs.Inbox.{ReplicaTurn, Shows, Accepts, Arrival, IsUnknown, IsRepeat, IsTooMany, IsEarly, IsHeld, IsNext}
+use Rattle.cds_follow.specs.Follow.{Known, known_by, next_ask, copied, is_refused}
+use Rattle.cds_follow.specs.Wire.{placed, heard, says_on_wire, arrival_on_wire}
 use Rattle.cds_follow.specs.Given.{moment_after}
 use Rattle.cds_replica.specs.Replies.{and_shown}
-use Rattle.cds_script.specs.Report.{Played, script_token, first_of, clock_of, records_since, sent_note, play, reply_text, written, may_stand}
+use Rattle.cds_script.specs.Report.{Played, script_token, first_of, clock_of, records_since, is_recent_one, sent_note, play, reply_text, written, may_stand}
 use Rattle.cds_script.specs.declared.reply.HeldReply.{HeldReply}
 use Rattle.cds_script.specs.declared.reply.HeldReply.TheVariants.{NoReply, Named, Refusal}
 use Rattle.cds_script.specs.declared.turn.ScriptTurn.{ScriptTurn}
@@ -41,7 +44,7 @@ play_read read first now records p Read = record p { replica = and_read (next_as
 play_read read first now records p turn = play first now records p turn
 
 abbrev pub played_by : List ReplayStep → Played
-played_by [] = record { commands = []; replica = []; reply = NoReply }
+played_by [] = record { commands = []; replica = []; reply = NoReply; wrap = last_seq }
 played_by (step ∷ older) =
     play_read step.read (first_of (turns_in older)) (clock_of (turns_in older)) (records_since (turns_in older)) (played_by older) step.turn
 
@@ -49,10 +52,11 @@ played_by (step ∷ older) =
 abbrev pub moment_by : List ReplayStep → Moment
 moment_by steps = moment_after script_token (first_of (turns_in steps)) (played_by steps).commands
 
--- whether a turn may stand after the older ones: a note that is delivered was sent
+-- whether a turn may stand after the older ones: a note that is delivered was sent, and is recent
 abbrev pub may_stand_by : List ReplayStep → ScriptTurn → Bool
 may_stand_by older (Deliver note) =
-    nat_lt 0 note && nat_le note (length (notes_of (first_of (turns_in older)) (played_by older).commands))
+    (nat_lt 0 note && nat_le note (length (notes_of (first_of (turns_in older)) (played_by older).commands)))
+    && is_recent_one (played_by older).wrap (sent_note note (notes_of (first_of (turns_in older)) (played_by older).commands)) (played_by older).replica
 may_stand_by older turn = may_stand (turns_in older) turn
 
 -- ---- what the replica refuses
@@ -79,15 +83,16 @@ refuses_arrival IsEarly outcome = false
 refuses_arrival (IsHeld missing) outcome = false
 refuses_arrival IsNext outcome = is_no outcome
 
-abbrev pub refuses_note : Option Note → List ReplicaTurn → Bool
-refuses_note None turns = false
-refuses_note (Some note) turns = refuses_arrival (arrival note turns) (with_notes (taken_by (Delivers note) turns) (known_by turns))
+abbrev pub refuses_note : ℕ → Option Note → List ReplicaTurn → Bool
+refuses_note wrap None turns = false
+refuses_note wrap (Some note) turns =
+    refuses_arrival (arrival_on_wire wrap (on_wire wrap note) turns) (heard (placed wrap (on_wire wrap note) turns) turns)
 
 -- what a turn gives it, after the older ones
 abbrev pub refuses_turn : Option Shown → ℕ → Played → ScriptTurn → Bool
 refuses_turn read first p Read = refuses_read (next_ask (known_by p.replica)) read p.replica
 refuses_turn read first p Accept = refuses_reply p.reply p.replica
-refuses_turn read first p (Deliver note) = refuses_note (sent_note note (notes_of first p.commands)) p.replica
+refuses_turn read first p (Deliver note) = refuses_note p.wrap (sent_note note (notes_of first p.commands)) p.replica
 refuses_turn read first p turn = false
 
 abbrev pub refuses : List ReplayStep → ReplayStep → Bool
@@ -104,7 +109,7 @@ read_text_by (Some ask) (Some shown) = reply_text shown
 -- an ask writes what the replica says, and the rows of its copy if it stands
 abbrev pub written_read : Option Shown → ℕ → ℕ → List Record → Played → ScriptTurn → List ℕ
 written_read read first now records p Read = read_text_by (next_ask (known_by p.replica)) read
-written_read read first now records p Ask = known_text (says p.replica) (copied (known_by p.replica))
+written_read read first now records p Ask = known_text (says_on_wire p.wrap p.replica) (copied (known_by p.replica))
 written_read read first now records p turn = written first now records p turn
 
 abbrev pub written_on : List ReplayStep → ReplayStep → List ℕ

@@ -37,7 +37,7 @@ pub fn carried_reply<W: Wire>(
     now: u64,
     ask: Ask,
 ) -> Result<Vec<u8>, Mem>
-    ensures replies { (first : ℕ) (commands : List Command) → StandsFor server.old (script_start first) commands →
+    ensures replies { (wrap first : ℕ) (commands : List Command) → StandsFor server.old (script_start wrap first) commands →
         IsPlainMoment (moment_after script_token first commands) →
         IfOk result (λ reply. reply.items ≡ W.carried wire.now (server_reply (moment_after script_token first commands) ask)) }
     ensures same { server.new ≡ server.old }
@@ -67,7 +67,7 @@ fn reply_to(
     request: &[u8],
 ) -> Result<Vec<u8>, Mem>
     requires { request.now ≡ written_action (action_of ask) control_url }
-    ensures replies { (first : ℕ) (commands : List Command) → StandsFor server.old (script_start first) commands →
+    ensures replies { (wrap first : ℕ) (commands : List Command) → StandsFor server.old (script_start wrap first) commands →
         IsPlainMoment (moment_after script_token first commands) →
         IfOk result (λ reply. reply.items ≡ server_reply (moment_after script_token first commands) ask) }
     ensures same { server.new ≡ server.old }

@@ -4,7 +4,7 @@
 ghost use Rattle.std.specs.Prelude.{◌≡◌, ℕ, false, List, [], None, Ok as Gave, codes, IfOk};
 ghost use Rattle.url.specs.Parser.{parse_url};
 ghost use Rattle.cds_commands.specs.Commands.{Command, Start as ServerStart};
-ghost use Rattle.cds_commands.specs.Notes.{Note as Told};
+ghost use Rattle.cds_commands.specs.Wire.{WireNote as Told};
 ghost use Rattle.cds_http.specs.declared.message.Message.{Message as MessageValue};
 ghost use Rattle.cds_http.specs.declared.message.Side.TheVariants.{Request as of_request, Reply as of_reply};
 ghost use Rattle.cds_http.specs.declared.message.Start.TheVariants.{Reply as start_reply};

@@ -5,6 +5,8 @@
 pub enum Last {
     /// No turn came yet.
     NoTurn,
+    /// The server's first number.
+    OfFirst { number: u32 },
     /// A track, or a comment of one.
     OfTrack,
     Other,

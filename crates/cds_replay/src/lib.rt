@@ -6,6 +6,7 @@ mod events;
 mod last;
 pub mod laws;
 mod play;
+mod recent;
 mod report;
 mod script;
 mod sent;

@@ -1,13 +1,13 @@
 //! The notes that a script's server sent, as they go over the wire.
 
-ghost use Rattle.std.specs.Prelude.{◌≡◌, ◌++◌, [], ◌∷◌, map, length, slice_get, option_map, IfOk, IfSome, OnErr, OnOk};
+ghost use Rattle.std.specs.Prelude.{◌≡◌, ◌<◌, ◌≤◌, nat_eq, filter, ◌++◌, [], ◌∷◌, map, length, slice_get, option_map, IfOk, IfSome, OnErr, OnOk};
 ghost use Rattle.cds_gena.specs.Subscribed.{IsDelivered};
 ghost use Rattle.cds_server.specs.Due.{AllGoOut};
 ghost use Rattle.cds_server.specs.Outcome.{GoesOut};
-ghost use Rattle.cds_replay.specs.Sending.{carries, first_sent, head_of, is_request_of, kept_note, note_at, sent_notes, sent_of, sent_to};
+ghost use Rattle.cds_replay.specs.Sending.{carries, first_sent, head_of, is_request_of, kept_note, name_on, named_before, note_at, sent_notes, sent_of, sent_to};
 
 use cds_base::{Bytes, Mem};
-use cds_gena::{Address, Addresses};
+use cds_gena::{Address, Addresses, Sid};
 use cds_notify::write_notify;
 use cds_server::{FirstNote, Notes};
 use std::alloc::Global;
@@ -73,6 +73,19 @@ fn notes_to(alloc: Global, to: &[Address], number: u32, body: usize) -> Result<V
     Ok(notes)
 }
 
+/// Returns how many notes go to a name.
+fn named_in(notes: &[KeptNote], sid: Sid) -> u64
+    ensures { result ≡ length (filter (λ note. nat_eq note.to.sid.0 sid.0) notes.now) }
+{
+    let mut count = 0;
+    for note in notes {
+        if note.to.sid.0 == sid.0 {
+            count += 1;
+        }
+    }
+    count
+}
+
 /// Returns the bytes of the request that carries a body to an address.
 fn carrying(alloc: Global, to: &Address, body: &[u8]) -> Result<Bytes, Mem>
     requires { IsDelivered to.now }
@@ -132,6 +145,26 @@ impl Sent {
                 number: note.number,
             }),
         }
+    }
+
+    /// Returns the name that the note at a place counted from 0 goes to, or `None` past the end.
+    pub fn name(&self, at: usize) -> Option<Sid>
+        ensures { result ≡ option_map name_on (slice_get self.now at) }
+    {
+        match self.notes.get(at) {
+            None => None,
+            Some(note) => Some(note.to.sid),
+        }
+    }
+
+    /// Returns how many notes before that of a number, counted from 1, went to a name.
+    pub fn before(&self, number: u32, sid: Sid) -> u64
+        requires some { 0 < number }
+        requires sent { number ≤ length self.now }
+        ensures { result ≡ named_before sid.0 number self.now }
+    {
+        let (earlier, _) = self.notes.as_slice().split_at(number as usize - 1);
+        named_in(earlier, sid)
     }
 
     /// Returns the bytes of the request that carries the note of a number, counted from 1, or `None` if no note has it.

@@ -1,7 +1,7 @@
 //! A script's server and replica, which take its turns one by one.
 
 ghost use Rattle.std.specs.Prelude.{◌≡◌, ℕ, ◌+◌, ◌<◌, ◌≤◌, ◌++◌, map, ◌^◌, ◌&&◌, [], ◌∷◌, List, true, nat_lt, nat_le, length, codes, IfOk, OnOk, IsSome, IsTrue, string_bytes};
-ghost use Rattle.cds_script.specs.declared.turn.ScriptTurn.TheVariants.{Scan, Load, Read, Ask, Subscribe, Accept, Renew, Unsubscribe, ReadFault, First, At, Deliver};
+ghost use Rattle.cds_script.specs.declared.turn.ScriptTurn.TheVariants.{Scan, Load, Read, Ask, Subscribe, Accept, Renew, Unsubscribe, ReadFault, First, Wrap, At, Deliver};
 ghost use Rattle.cds_script.specs.Script.{IsInRange, moment_limit};
 ghost use Rattle.cds_script.specs.declared.reply.HeldReply.{HeldReply};
 ghost use Rattle.cds_commands.specs.Commands.{Command, Start as ServerStart};
@@ -9,21 +9,23 @@ ghost use Rattle.cds_server.specs.Serving.{StandsFor as ServerStandsFor};
 ghost use Rattle.cds_http.specs.declared.message.Side.TheVariants.{Request};
 ghost use Rattle.cds_replay.specs.Events.{HasSomeStatus, IsAsked, IsMessage, RepliesTo};
 ghost use Rattle.cds_follow.specs.Named.{named, named_note};
-ghost use Rattle.cds_commands.specs.Notes.{Note as Told};
+ghost use Rattle.cds_commands.specs.Notes.{Note as Told, notes_of};
+ghost use Rattle.cds_commands.specs.Wire.{on_wire};
 ghost use Rattle.cds_script.specs.declared.found.Found.TheVariants.{Folder as FolderFound, Track as TrackFound};
-ghost use Rattle.cds_script.specs.Report.{commented, last_commented, record_of, scanned};
+ghost use Rattle.cds_script.specs.Report.{commented, first_of, is_recent_one, last_commented, record_of, scanned, sent_note};
 ghost use Rattle.cds_follow.specs.Inbox.{ReplicaTurn};
 ghost use Rattle.cds_replica.specs.State.{StandsFor};
 ghost use Rattle.cds_replica.specs.Steps.{phase_ask};
-ghost use Rattle.cds_replay.specs.Wired.{ReplayStep, may_stand_by, written_on};
+ghost use Rattle.cds_replay.specs.Wired.{ReplayStep, may_stand_by, played_by, turns_in, written_on};
 ghost use Rattle.cds_replay.specs.declared.last.Last.TheVariants.{NoTurn};
-ghost use Rattle.cds_replay.specs.Session.{script_names, IsHeldAs, IsAfter, IsStanding, IsBounded, TurnTaken, QuietTaken, ReplyTaken, HeldTaken, NameTaken, NoteTaken, of_memory, quiet, Grows, last_found, with_found, with_server, with_tag};
+ghost use Rattle.cds_replay.specs.Session.{script_names, IsHeldAs, IsAfter, IsStanding, IsBounded, TurnTaken, QuietTaken, ReplyTaken, HeldTaken, NameTaken, NoteTaken, of_memory, quiet, first_in, Grows, is_beginning, is_near_in, last_found, with_found, with_server, with_tag};
 
 use crate::control::carried_reply;
 use crate::events::{
     answered, lease_of, note_of, renew_request, status_of, subscribe_request, unsubscribe_request,
 };
 use crate::last::Last;
+use crate::recent::{distance, far_from, near_of};
 use crate::report::{
     can_be_told, put_delivered, put_known, put_notes, put_read, put_scan, put_status, was_answered,
     was_noticed,
@@ -81,6 +83,8 @@ pub struct Session {
     reply: Option<Bytes>,
     /// What the last turn was.
     last: Last,
+    /// The SEQ after which comes SEQ 1.
+    wrap: u32,
 }
 
 impl Model for Session {
@@ -88,7 +92,7 @@ impl Model for Session {
 
     ghost Value = { Playing };
 
-    ghost view = { λ s. record { server = s.server; replica = s.replica; sent = s.sent; found = s.found; clock = s.clock; reply = s.reply; last = s.last } };
+    ghost view = { λ s. record { server = s.server; replica = s.replica; sent = s.sent; found = s.found; clock = s.clock; reply = s.reply; last = s.last; wrap = s.wrap } };
 }
 
 impl Session {
@@ -105,23 +109,89 @@ impl Session {
             clock: 0,
             reply: None,
             last: Last::NoTurn,
+            wrap: u32::MAX,
         })
     }
 
     /// Returns whether a turn may stand after those so far:
     /// - the first number comes before all else;
+    /// - the wrap is at least 256, and comes before all but the first number;
     /// - a comment comes after a track or another comment;
     /// - moments never fall;
-    /// - a note that is delivered was sent.
+    /// - a note that is delivered was sent, and is recent.
     pub fn may_stand(&self, turn: &ScriptTurn) -> bool
         ensures { (steps : List ReplayStep) → IsAfter self.now steps → result ≡ may_stand_by steps turn.now }
     {
         match turn {
             ScriptTurn::First { .. } => matches!(self.last, Last::NoTurn),
             ScriptTurn::At { moment } => self.clock <= *moment,
-            ScriptTurn::Deliver { note } => self.has_sent(*note),
+            ScriptTurn::Deliver { note } => self.may_deliver(*note),
+            ScriptTurn::Wrap { number } => self.may_begin_with(*number),
             ScriptTurn::Tag { .. } => matches!(self.last, Last::OfTrack),
             _ => true,
+        }
+    }
+
+    /// Returns whether the note of this number may be delivered: it was sent, and is recent.
+    fn may_deliver(&self, number: u32) -> bool
+        ensures { (steps : List ReplayStep) → IsAfter self.now steps → result ≡ may_stand_by steps (Deliver number) }
+    {
+        if self.has_sent(number) {
+            self.is_recent(number)
+        } else {
+            false
+        }
+    }
+
+    /// Returns whether SEQ 1 may come after another SEQ from now on: it is at least 256, and no turn came but the first number.
+    fn may_begin_with(&self, wrap: u32) -> bool
+        ensures { (steps : List ReplayStep) → IsAfter self.now steps → result ≡ may_stand_by steps (Wrap wrap) }
+    {
+        if 256 <= wrap {
+            self.is_beginning()
+        } else {
+            false
+        }
+    }
+
+    /// Returns whether no turn came but the server's first number.
+    fn is_beginning(&self) -> bool
+        ensures { result ≡ is_beginning self.now.last }
+    {
+        matches!(self.last, Last::NoTurn | Last::OfFirst { .. })
+    }
+
+    /// Returns whether the note of a number, if it is heard, is fewer places away than the wrap without its reach. Condition: it
+    /// was sent.
+    fn is_recent(&self, number: u32) -> bool
+        requires some { 0 < number }
+        requires sent { number ≤ length self.now.sent }
+        ensures { (steps : List ReplayStep) → IsAfter self.now steps → result ≡ is_recent_one (played_by steps).wrap
+            (sent_note number (notes_of (first_of (turns_in steps)) (played_by steps).commands)) (played_by steps).replica }
+    {
+        match self.sent.name(number as usize - 1) {
+            None => true,
+            Some(sid) => self.is_near(sid, number),
+        }
+    }
+
+    /// Returns whether the note of a number, which was sent to a name, is fewer places away than the wrap without its reach, if the
+    /// replica hears the name. While both places are below that, the place of the note need not be counted.
+    fn is_near(&self, sid: Sid, number: u32) -> bool
+        requires some { 0 < number }
+        requires sent { number ≤ length self.now.sent }
+        ensures { result ≡ is_near_in self.now sid.0 number }
+    {
+        let far = far_from(self.wrap);
+        match near_of(&self.replica, sid) {
+            None => true,
+            Some(near) => {
+                if near < far && u64::from(number) <= far {
+                    true
+                } else {
+                    distance(self.sent.before(number, sid), near) < far
+                }
+            }
         }
     }
 
@@ -157,6 +227,7 @@ impl Session {
             ScriptTurn::Read => self.read(alloc, wire, out),
             ScriptTurn::Ask => of_memory(self.ask(out)),
             ScriptTurn::First { number } => of_memory(self.begin_at(alloc, number)),
+            ScriptTurn::Wrap { number } => of_memory(self.begin_with(alloc, number)),
             ScriptTurn::At { moment } => of_memory(self.tick(alloc, moment, out)),
             ScriptTurn::Subscribe => of_memory(self.subscribe(alloc, out)),
             ScriptTurn::Accept => self.accept(alloc, out),
@@ -264,6 +335,21 @@ impl Session {
     {
         let server = Server::new(alloc, BOOT, number)?;
         drop(replace(&mut self.server, server));
+        self.last = Last::OfFirst { number };
+        Ok(())
+    }
+
+    /// Begins again with a server and a replica for which SEQ 1 comes after another SEQ. No turn came before but the server's first
+    /// number.
+    fn begin_with(&mut self, alloc: Global, wrap: u32) -> Result<(), Mem>
+        requires standing { IsStanding self.old }
+        requires stands { (steps : List ReplayStep) → IsAfter self.old steps → may_stand_by steps (Wrap wrap) ≡ true }
+        ensures after { (steps : List ReplayStep) → IsAfter self.old steps → OnOk result (IsAfter self.new (quiet (Wrap wrap) ∷ steps)) }
+    {
+        let server = Server::with_wrap(alloc, BOOT, first_in(self.last), wrap)?;
+        drop(replace(&mut self.server, server));
+        drop(replace(&mut self.replica, Replica::with_wrap(alloc, wrap)));
+        self.wrap = wrap;
         self.last = Last::Other;
         Ok(())
     }
@@ -427,8 +513,8 @@ fn take_reply(
     out: &mut String,
 ) -> Result<(), TurnError>
     requires { IsSome (phase_ask replica.old.known.phase) }
-    ensures { (turns : List ReplicaTurn) → StandsFor replica.old (named script_names turns) →
-        ReplyTaken turns reply.now (string_bytes out.old) (string_bytes out.new) replica.new result }
+    ensures { (wrap : ℕ) (turns : List ReplicaTurn) → StandsFor replica.old wrap (named script_names turns) →
+        ReplyTaken wrap turns reply.now (string_bytes out.old) (string_bytes out.new) replica.new result }
 {
     match replica.answer(alloc, reply) {
         Ok(read) => {
@@ -452,8 +538,8 @@ fn take_lease(
 ) -> Result<(), TurnError>
     requires out { IsTrue replica.old.inbox.out }
     requires reply { HasSomeStatus reply.now }
-    ensures { (turns : List ReplicaTurn) (held : HeldReply) → StandsFor replica.old (named script_names turns) → IsHeldAs (Some reply.now) held →
-        HeldTaken turns held (string_bytes out.old) (string_bytes out.new) replica.new result }
+    ensures { (wrap : ℕ) (turns : List ReplicaTurn) (held : HeldReply) → StandsFor replica.old wrap (named script_names turns) → IsHeldAs (Some reply.now) held →
+        HeldTaken wrap turns held (string_bytes out.old) (string_bytes out.new) replica.new result }
 {
     match lease_of(alloc, reply)? {
         Some(lease) => take_name(replica, alloc, lease.sid, out),
@@ -474,8 +560,8 @@ fn take_name(
     out: &mut String,
 ) -> Result<(), TurnError>
     requires { IsTrue replica.old.inbox.out }
-    ensures { (turns : List ReplicaTurn) (name : ℕ) → StandsFor replica.old (named script_names turns) → sid.0 ≡ script_names name →
-        NameTaken turns name (string_bytes out.old) (string_bytes out.new) replica.new result }
+    ensures { (wrap : ℕ) (turns : List ReplicaTurn) (name : ℕ) → StandsFor replica.old wrap (named script_names turns) → sid.0 ≡ script_names name →
+        NameTaken wrap turns name (string_bytes out.old) (string_bytes out.new) replica.new result }
 {
     match replica.subscribed(alloc, sid) {
         Ok(()) => {
@@ -498,8 +584,8 @@ fn take_note(
     note: Note,
     out: &mut String,
 ) -> Result<(), TurnError>
-    ensures { (turns : List ReplicaTurn) (told : Told) → StandsFor replica.old (named script_names turns) → note ≡ named_note script_names told →
-        NoteTaken turns number told (string_bytes out.old) (string_bytes out.new) replica.new result }
+    ensures { (wrap : ℕ) (turns : List ReplicaTurn) (told : Told) → StandsFor replica.old wrap (named script_names turns) →
+        note ≡ on_wire wrap (named_note script_names told) → NoteTaken wrap turns number told (string_bytes out.old) (string_bytes out.new) replica.new result }
 {
     let answer = replica.notify(alloc, note);
     if !was_noticed(&answer) {
@@ -510,6 +596,18 @@ fn take_note(
     }
     put_delivered(out, u64::from(number), answer)?;
     Ok(())
+}
+
+/// Returns the first number of the server, if the last turn named one, and 0 otherwise.
+fn first_in(last: Last) -> u32
+    ensures { result ≡ first_in last }
+{
+    match last {
+        Last::OfFirst { number } => number,
+        Last::NoTurn => 0,
+        Last::OfTrack => 0,
+        Last::Other => 0,
+    }
 }
 
 /// Returns what the turn was that found something.

@@ -4,7 +4,7 @@ use Rattle.std.specs.Prelude.{nat_le}
 use Rattle.std.specs.List.{list_any}
 use Rattle.std.proofs.lemmas.Bool.{leb-false}
 use Rattle.cds_commands.specs.Notes.{Note}
-use Rattle.cds_follow.specs.Inbox.{has_seq, is_same_note, held_limit, Arrival, IsUnknown, IsRepeat, IsTooMany, IsEarly, IsHeld, IsNext}
+use Rattle.cds_follow.specs.Inbox.{has_place, is_same_note, held_limit, Arrival, IsUnknown, IsRepeat, IsTooMany, IsEarly, IsHeld, IsNext}
 use Rattle.cds_replica.specs.Inboxed.{KeptInbox, accepts, repeats, follows, held_count, arrival_in}
 
 -- an arrival by its five tests
@@ -48,12 +48,12 @@ neither false b e = refl
 -- a note that is next follows those that were taken
 pub next-follows : (note : Note) (kept : KeptInbox) → arrival_in note kept ≡ IsNext → follows note kept ≡ true
 next-follows note kept e =
-    let tests = next-tests (accepts note.name kept) kept.out (repeats note kept) (not (follows note kept) && nat_le held_limit (held_count kept)) (nat_lt kept.next note.seq) (held_count kept) kept.next e in
-    let not-repeat : nat_lt note.seq kept.next || has_seq kept.waiting note.seq ≡ false =
-    (λ i. cond (sym tests.0 i) (nat_lt note.seq kept.next || has_seq kept.waiting note.seq) (kept.out && list_any (is_same_note note) kept.early)) ∙ tests.1 in
-    let low = ltb-false note.seq kept.next (neither (nat_lt note.seq kept.next) (has_seq kept.waiting note.seq) not-repeat) in
-    let high = ltb-false kept.next note.seq tests.2 in
-    (λ i. tests.0 i && eq-eqb note.seq kept.next (omega (arith, low, high)) i)
+    let tests = next-tests (accepts note.name kept) kept.out (repeats note kept) (not (follows note kept) && nat_le held_limit (held_count kept)) (nat_lt kept.next note.place) (held_count kept) kept.next e in
+    let not-repeat : nat_lt note.place kept.next || has_place kept.waiting note.place ≡ false =
+    (λ i. cond (sym tests.0 i) (nat_lt note.place kept.next || has_place kept.waiting note.place) (kept.out && list_any (is_same_note note) kept.early)) ∙ tests.1 in
+    let low = ltb-false note.place kept.next (neither (nat_lt note.place kept.next) (has_place kept.waiting note.place) not-repeat) in
+    let high = ltb-false kept.next note.place tests.2 in
+    (λ i. tests.0 i && eq-eqb note.place kept.next (omega (arith, low, high)) i)
 
 -- where a note does not follow and is not one too many, there is room
 room : (f : Bool) (n : ℕ) → f ≡ false → not f && nat_le held_limit n ≡ false → n < held_limit
@@ -61,12 +61,12 @@ room true n e t = absurd (true≢false e)
 room false n e t = leb-false held_limit n t
 
 -- a note that is held is one of the accepted name, behind the next one, and there is room
-pub held-waits : (note : Note) (kept : KeptInbox) (seq : ℕ) → arrival_in note kept ≡ IsHeld seq
-    → (held_count kept < held_limit) × (accepts note.name kept ≡ true) × (kept.next < note.seq)
-held-waits note kept seq e =
-    let tests = held-tests (accepts note.name kept) kept.out (repeats note kept) (not (follows note kept) && nat_le held_limit (held_count kept)) (nat_lt kept.next note.seq) (held_count kept) kept.next seq e in
-    let later = ltb-true kept.next note.seq tests.2 in
-    let apart : nat_eq note.seq kept.next ≡ false = ne_eqb note.seq kept.next (λ s. omega (arith, s, later)) in (
+pub held-waits : (note : Note) (kept : KeptInbox) (place : ℕ) → arrival_in note kept ≡ IsHeld place
+    → (held_count kept < held_limit) × (accepts note.name kept ≡ true) × (kept.next < note.place)
+held-waits note kept place e =
+    let tests = held-tests (accepts note.name kept) kept.out (repeats note kept) (not (follows note kept) && nat_le held_limit (held_count kept)) (nat_lt kept.next note.place) (held_count kept) kept.next place e in
+    let later = ltb-true kept.next note.place tests.2 in
+    let apart : nat_eq note.place kept.next ≡ false = ne_eqb note.place kept.next (λ s. omega (arith, s, later)) in (
       room (follows note kept) (held_count kept) (λ i. tests.0 i && apart i) tests.1,
       tests.0,
       later,
@@ -75,5 +75,5 @@ held-waits note kept seq e =
 -- where a note is early, there is room
 pub early-room : (note : Note) (kept : KeptInbox) → arrival_in note kept ≡ IsEarly → held_count kept < held_limit
 early-room note kept e =
-    let tests = early-tests (accepts note.name kept) kept.out (repeats note kept) (not (follows note kept) && nat_le held_limit (held_count kept)) (nat_lt kept.next note.seq) (held_count kept) kept.next e in
-    room (follows note kept) (held_count kept) (λ i. tests.0 i && nat_eq note.seq kept.next) tests.1
+    let tests = early-tests (accepts note.name kept) kept.out (repeats note kept) (not (follows note kept) && nat_le held_limit (held_count kept)) (nat_lt kept.next note.place) (held_count kept) kept.next e in
+    room (follows note kept) (held_count kept) (λ i. tests.0 i && nat_eq note.place kept.next) tests.1

@@ -11,7 +11,7 @@ use Rattle.cds_load.specs.declared.exchange.Read.{Read}
 use Rattle.cds_load.specs.declared.exchange.Shown.{Shown}
 use Rattle.cds_follow.specs.Copy.{KnownRow, Happening, rows_after, least_unread, read_up_to}
 use Rattle.cds_follow.specs.Inbox.{ReplicaTurn}
-use Rattle.cds_follow.specs.Follow.{Known, position, first_torn, judged, counted_from, load_ended, loaded, with_reply, known_by, next_ask, ask_of, copy_says, says_without_gap, says_of, says, copied}
+use Rattle.cds_follow.specs.Follow.{Known, position, first_torn, judged, counted_from, load_ended, loaded, with_reply, known_by, next_ask, ask_of, copy_says, says_without_gap, says_of, copied}
 use Rattle.cds_commands.specs.Notes.{changes_above}
 use Rattle.cds_follow.specs.KnownLaws.{has_copy}
 use Rattle.cds_follow.specs.LoadTurns.{load_turns}
@@ -23,6 +23,8 @@ use Rattle.cds_replica.specs.Calls.{IsAnswer}
 use Rattle.cds_replica.specs.Steps.{phase_all}
 use Rattle.cds_replica.specs.State.{phase_of, ReplicaState, StandsFor}
 use Rattle.cds_replica.proofs.KeptCounts.{known-copied}
+use Rattle.cds_replica.proofs.Keeping.{no-gap}
+use Rattle.cds_follow.specs.Wire.{says_by_seq, says_on_wire}
 use Rattle.cds_follow.proofs.LoadTurns.{loads-are-of-turns}
 use Rattle.cds_follow.proofs.Seen.{copies-shown}
 use Rattle.cds_load.proofs.NoJumps.{no-jump}
@@ -39,9 +41,9 @@ ask-load known Idle e = refl
 ask-load known (Loads stage) e = refl
 ask-load known (HasCopy number rows) e = absurd (true≢false e)
 
-pub asks-by_attempt : (kept : ReplicaState) (result : Option Ask) → ((turns : List ReplicaTurn) → StandsFor kept turns → result ≡ next_ask (known_by turns)) → AsksByAttempt kept result
-asks-by_attempt kept result next turns stood rows load =
-    next turns stood ∙ ask-load (known_by turns) (known_by turns).held load ∙ ap load_ask (loads-are-of-turns turns) ∙ asks-of_attempts (load_turns turns) rows
+pub asks-by_attempt : (kept : ReplicaState) (result : Option Ask) → ((wrap : ℕ) (turns : List ReplicaTurn) → StandsFor kept wrap turns → result ≡ next_ask (known_by turns)) → AsksByAttempt kept result
+asks-by_attempt kept result next wrap turns stood rows load =
+    next wrap turns stood ∙ ask-load (known_by turns) (known_by turns).held load ∙ ap load_ask (loads-are-of-turns turns) ∙ asks-of_attempts (load_turns turns) rows
 
 -- ---- replies to the load
 
@@ -118,12 +120,12 @@ reply-loaded known (Loads stage) shown e = refl
 reply-loaded known (HasCopy number rows) shown e = absurd (true≢false e)
 
 pub takes-by_attempt : (kept : ReplicaState) (shown : Shown) (result : Result Read AnswerError)
-    → ((turns : List ReplicaTurn) → StandsFor kept turns → IsAnswer (with_reply (known_by turns) (known_by turns).held shown) result) → TakesByAttempt kept shown result
-takes-by_attempt kept shown result answer turns stood rows load =
+    → ((wrap : ℕ) (turns : List ReplicaTurn) → StandsFor kept wrap turns → IsAnswer (with_reply (known_by turns) (known_by turns).held shown) result) → TakesByAttempt kept shown result
+takes-by_attempt kept shown result answer wrap turns stood rows load =
     subst (λ (v : Verdict). IsVerdict turns shown v result) (refusals-of_attempts (load_turns turns) shown rows)
     (verdict-loaded turns shown rows (taken (held_by (load_turns turns)) shown) refl result
     (subst (λ (o : Outcome Known). IsAnswer o result)
-    (reply-loaded (known_by turns) (known_by turns).held shown load ∙ ap (λ (h : Held). loaded (known_by turns) (taken h shown)) (loads-are-of-turns turns)) (answer turns stood)))
+    (reply-loaded (known_by turns) (known_by turns).held shown load ∙ ap (λ (h : Held). loaded (known_by turns) (taken h shown)) (loads-are-of-turns turns)) (answer wrap turns stood)))
 
 -- ---- whether a copy stands
 
@@ -143,9 +145,10 @@ runs-same known (HasCopy number rows) = (λ e. absurd (copy-runs known (least_un
     stands : (n : ℕ) → LoadStands n ≡ LoadRuns → ⊥
     stands n e = cc
 
-pub says-by_attempt : (kept : ReplicaState) (result : Says) → ((turns : List ReplicaTurn) → StandsFor kept turns → result ≡ says turns) → SaysByAttempt kept result
-says-by_attempt kept result said turns stood rows none =
-    let whole : result ≡ says_without_gap (known_by turns) (known_by turns).held = said turns stood ∙ ap (λ (o : Option ℕ). says_of o (known_by turns)) none in
+pub says-by_attempt : (kept : ReplicaState) (result : Says) → ((wrap : ℕ) (turns : List ReplicaTurn) → StandsFor kept wrap turns → result ≡ says_on_wire wrap turns) → SaysByAttempt kept result
+says-by_attempt kept result said wrap turns stood rows none =
+    let whole : result ≡ says_without_gap (known_by turns) (known_by turns).held =
+    said wrap turns stood ∙ ap (λ (o : Option ℕ). says_by_seq wrap (says_of o (known_by turns))) none ∙ sym (no-gap wrap (known_by turns) (known_by turns).held) in
     let load : load_says (known_by turns).held ≡ says_by (attempt_of (load_turns turns)) = ap load_says (loads-are-of-turns turns) ∙ answers-of_attempts (load_turns turns) rows in
     let same = runs-same (known_by turns) (known_by turns).held in
     (λ e. sym load ∙ same.0 (sym whole ∙ e), λ e. whole ∙ same.1 (load ∙ e))
@@ -157,12 +160,12 @@ at-place P [] at row all e = absurd (cc)
 at-place P (next ∷ rows) zero row all e = let same : next ≡ row = cc in subst P same all.0
 at-place P (next ∷ rows) (suc at) row all e = at-place P rows at row all.1 e
 
-pub rows-shown : (kept : ReplicaState) (at : ℕ) (result : Option (Bor ObjectRow)) (turns : List ReplicaTurn)
-    → ((turns : List ReplicaTurn) → StandsFor kept turns → option_copied result ≡ slice_get (copied (known_by turns)) at) → StandsFor kept turns
+pub rows-shown : (kept : ReplicaState) (at : ℕ) (result : Option (Bor ObjectRow)) (wrap : ℕ) (turns : List ReplicaTurn)
+    → ((wrap : ℕ) (turns : List ReplicaTurn) → StandsFor kept wrap turns → option_copied result ≡ slice_get (copied (known_by turns)) at) → StandsFor kept wrap turns
     → IfSome result (λ row. WasShown row.now turns)
-rows-shown kept at None turns is stood = tt
-rows-shown kept at (Some row) turns is stood =
-    at-place (λ (r : ObjectRow). WasShown r turns) (copied (known_by turns)) at row.now (copies-shown turns) (sym (is turns stood))
+rows-shown kept at None wrap turns is stood = tt
+rows-shown kept at (Some row) wrap turns is stood =
+    at-place (λ (r : ObjectRow). WasShown r turns) (copied (known_by turns)) at row.now (copies-shown turns) (sym (is wrap turns stood))
 
 -- ---- the rows of a copy are the attempt's, with what befell it since
 
@@ -172,6 +175,6 @@ all-held (Loads stage) happenings e = absurd (true≢false (sym e))
 all-held (HasCopy number rows) happenings e = known-copied rows happenings
 
 pub copies-by_attempt : (kept : ReplicaState) (rows : List KnownRow) → rows ≡ phase_all kept.known.phase → CopiesByAttempt kept rows
-copies-by_attempt kept rows is turns stood shown copy =
+copies-by_attempt kept rows is wrap turns stood shown copy =
     is ∙ ap (λ (k : ReplicaState). phase_all k.known.phase) stood ∙ all-held (known_by turns).held (known_by turns).happenings copy
     ∙ ap (λ (l : List ObjectRow). rows_after l (known_by turns).happenings) (ap load_copied (loads-are-of-turns turns) ∙ copies-of_attempts (load_turns turns) shown)

@@ -4,7 +4,7 @@ use Rattle.std.specs.Option.{option_eq}
 use Rattle.std.specs.List.{list_any, cons_option}
 use Rattle.std.proofs.lemmas.Bool.{cases_lt}
 use Rattle.cds_commands.specs.Notes.{Note, note_of, notes_from_to}
-use Rattle.cds_follow.specs.Inbox.{ReplicaTurn, Begins, Shows, Requests, Accepts, Refuses, Delivers, is_out, accepted, is_accepted, is_early, early_notes, received, has_seq, next_seq, missing, missing_of, is_same_note, different, waiting_notes, held_notes, held_limit, taken_by, is_repeat, is_next, Arrival, IsUnknown, IsRepeat, IsTooMany, IsEarly, IsHeld, IsNext, arrival}
+use Rattle.cds_follow.specs.Inbox.{ReplicaTurn, Begins, Shows, Requests, Accepts, Refuses, Delivers, is_out, accepted, is_accepted, is_early, early_notes, received, has_place, next_place, missing, missing_of, is_same_note, different, waiting_notes, held_notes, held_limit, taken_by, is_repeat, is_next, Arrival, IsUnknown, IsRepeat, IsTooMany, IsEarly, IsHeld, IsNext, arrival}
 use Rattle.cds_follow.specs.Follow.{is_turned_away}
 use Rattle.cds_follow.proofs.Received.{longest-run}
 use Rattle.cds_replica.specs.Inboxed.{KeptInbox, inbox_of, repeats, held_count, arrival_in, run_end, behind, of_name, with_name, taken_early, run_after, with_note, taken_in}
@@ -38,94 +38,95 @@ received-of name (Delivers note ∷ older) e = by (is_accepted note.name older) 
 
 -- ---- which notes were received, by what is kept
 
--- a SEQ of the received notes is below the next one, or waits
+-- a place of the received notes is below the next one, or waits
 has-kept : (name q : ℕ) (turns : List ReplicaTurn) → accepted turns ≡ Some name
-    → has_seq (received turns) q ≡ nat_lt q (next_seq turns) || has_seq (waiting_notes turns) q
-has-kept name q turns e = by (cases_lt q (next_seq turns))
+    → has_place (received turns) q ≡ nat_lt q (next_place turns) || has_place (waiting_notes turns) q
+has-kept name q turns e = by (cases_lt q (next_place turns))
   where
-    later : (q < next_seq turns) ⊎ (next_seq turns ≤ q) → (next_seq turns < q) ⊎ (q ≤ next_seq turns)
-        → has_seq (received turns) q ≡ nat_lt q (next_seq turns) || has_seq (waiting_notes turns) q
-    later (inl l) m = (longest-run turns).0 q l ∙ (λ i. sym (lt-ltb q (next_seq turns) l) i || has_seq (waiting_notes turns) q)
+    later : (q < next_place turns) ⊎ (next_place turns ≤ q) → (next_place turns < q) ⊎ (q ≤ next_place turns)
+        → has_place (received turns) q ≡ nat_lt q (next_place turns) || has_place (waiting_notes turns) q
+    later (inl l) m = (longest-run turns).0 q l ∙ (λ i. sym (lt-ltb q (next_place turns) l) i || has_place (waiting_notes turns) q)
     later (inr l) (inl m) =
         sym (different-has name q (received turns) (received-of name turns e))
-        ∙ sym (behind-has (next_seq turns) q (different (received turns)) m)
-        ∙ (λ i. sym (le-ltb q (next_seq turns) l) i || has_seq (waiting_notes turns) q)
+        ∙ sym (behind-has (next_place turns) q (different (received turns)) m)
+        ∙ (λ i. sym (le-ltb q (next_place turns) l) i || has_place (waiting_notes turns) q)
     later (inr l) (inr m) =
-        let same : q ≡ next_seq turns = omega (arith, l, m) in
-        ap (has_seq (received turns)) same ∙ (longest-run turns).1
-        ∙ sym (behind-none (next_seq turns) q (different (received turns)) m)
-        ∙ (λ i. sym (le-ltb q (next_seq turns) l) i || has_seq (waiting_notes turns) q)
+        let same : q ≡ next_place turns = omega (arith, l, m) in
+        ap (has_place (received turns)) same ∙ (longest-run turns).1
+        ∙ sym (behind-none (next_place turns) q (different (received turns)) m)
+        ∙ (λ i. sym (le-ltb q (next_place turns) l) i || has_place (waiting_notes turns) q)
 
-    by : (q < next_seq turns) ⊎ (next_seq turns ≤ q) → has_seq (received turns) q ≡ nat_lt q (next_seq turns) || has_seq (waiting_notes turns) q
-    by l = later l (cases_lt (next_seq turns) q)
+    by : (q < next_place turns) ⊎ (next_place turns ≤ q) → has_place (received turns) q ≡ nat_lt q (next_place turns) || has_place (waiting_notes turns) q
+    by l = later l (cases_lt (next_place turns) q)
 
-repeat-kept : (note : Note) (turns : List ReplicaTurn) → is_repeat note turns ≡ repeats note (inbox_of turns)
-repeat-kept note turns = by (is_accepted note.name turns) refl
+repeat-kept : (wrap : ℕ) (note : Note) (turns : List ReplicaTurn) → is_repeat note turns ≡ repeats note (inbox_of wrap turns)
+repeat-kept wrap note turns = by (is_accepted note.name turns) refl
   where
     by : (b : Bool) → is_accepted note.name turns ≡ b
-        → cond b (has_seq (received turns) note.seq) (is_out turns && list_any (is_same_note note) (early_notes turns))
-        ≡ cond b (nat_lt note.seq (next_seq turns) || has_seq (waiting_notes turns) note.seq) (is_out turns && list_any (is_same_note note) (different (early_notes turns)))
-    by true e = has-kept note.name note.seq turns (accepted-name note.name turns e)
+        → cond b (has_place (received turns) note.place) (is_out turns && list_any (is_same_note note) (early_notes turns))
+        ≡ cond b (nat_lt note.place (next_place turns) || has_place (waiting_notes turns) note.place) (is_out turns && list_any (is_same_note note) (different (early_notes turns)))
+    by true e = has-kept note.name note.place turns (accepted-name note.name turns e)
     by false e = ap (λ b. is_out turns && b) (sym (different-any note (early_notes turns)))
 
-pub held-kept : (turns : List ReplicaTurn) → length (held_notes turns) ≡ held_count (inbox_of turns)
-held-kept turns = length-append {A = Note} (waiting_notes turns) (different (early_notes turns))
+pub held-kept : (wrap : ℕ) (turns : List ReplicaTurn) → length (held_notes turns) ≡ held_count (inbox_of wrap turns)
+held-kept wrap turns = length-append {A = Note} (waiting_notes turns) (different (early_notes turns))
 
 -- what becomes of a note is settled by what is kept
-pub arrival-kept : (note : Note) (turns : List ReplicaTurn) → arrival note turns ≡ arrival_in note (inbox_of turns)
-arrival-kept note turns = λ i.
+pub arrival-kept : (wrap : ℕ) (note : Note) (turns : List ReplicaTurn) → arrival note turns ≡ arrival_in note (inbox_of wrap turns)
+arrival-kept wrap note turns = λ i.
     cond (not (is_accepted note.name turns) && not (is_out turns)) IsUnknown
-    (cond (repeat-kept note turns i) IsRepeat
-    (cond (not (is_next note turns) && nat_le held_limit (held-kept turns i)) (IsTooMany (held-kept turns i))
+    (cond (repeat-kept wrap note turns i) IsRepeat
+    (cond (not (is_next note turns) && nat_le held_limit (held-kept wrap turns i)) (IsTooMany (held-kept wrap turns i))
     (cond (not (is_accepted note.name turns)) IsEarly
-    (cond (nat_lt (next_seq turns) note.seq) (IsHeld (next_seq turns)) IsNext))))
+    (cond (nat_lt (next_place turns) note.place) (IsHeld (next_place turns)) IsNext))))
 
--- the SEQ that is missing, by what is kept: the next one, where a note waits
-any-behind : (next : ℕ) (notes : List Note) → list_any (λ (note : Note). nat_lt next note.seq) notes ≡ list_any (λ (note : Note). nat_lt next note.seq) (behind next notes)
+-- the place that is missing, by what is kept: the next one, where a note waits
+any-behind : (next : ℕ) (notes : List Note) → list_any (λ (note : Note). nat_lt next note.place) notes ≡ list_any (λ (note : Note). nat_lt next note.place) (behind next notes)
 any-behind next [] = refl
-any-behind next (note ∷ notes) = by (nat_lt next note.seq) refl (any-behind next notes)
+any-behind next (note ∷ notes) = by (nat_lt next note.place) refl (any-behind next notes)
   where
-    by : (b : Bool) → nat_lt next note.seq ≡ b → list_any (λ (n : Note). nat_lt next n.seq) notes ≡ list_any (λ (n : Note). nat_lt next n.seq) (behind next notes)
-        → b || list_any (λ (n : Note). nat_lt next n.seq) notes ≡ list_any (λ (n : Note). nat_lt next n.seq) (cond b (note ∷ behind next notes) (behind next notes))
-    by true e rest = λ i. sym e i || list_any (λ (n : Note). nat_lt next n.seq) (behind next notes)
+    by : (b : Bool) → nat_lt next note.place ≡ b → list_any (λ (n : Note). nat_lt next n.place) notes ≡ list_any (λ (n : Note). nat_lt next n.place) (behind next notes)
+        → b || list_any (λ (n : Note). nat_lt next n.place) notes ≡ list_any (λ (n : Note). nat_lt next n.place) (cond b (note ∷ behind next notes) (behind next notes))
+    by true e rest = λ i. sym e i || list_any (λ (n : Note). nat_lt next n.place) (behind next notes)
     by false e rest = rest
 
-any-later : (next : ℕ) (note : Note) (notes : List Note) → list_any (is_same_note note) notes ≡ true → nat_lt next note.seq ≡ true
-    → list_any (λ (n : Note). nat_lt next n.seq) notes ≡ true
+any-later : (next : ℕ) (note : Note) (notes : List Note) → list_any (is_same_note note) notes ≡ true → nat_lt next note.place ≡ true
+    → list_any (λ (n : Note). nat_lt next n.place) notes ≡ true
 any-later next note [] e l = absurd (true≢false (sym e))
 any-later next note (other ∷ notes) e l = by (is_same_note note other) refl e (λ f. any-later next note notes f l)
   where
-    or : (b : Bool) → list_any (λ (n : Note). nat_lt next n.seq) notes ≡ true → b || list_any (λ (n : Note). nat_lt next n.seq) notes ≡ true
+    or : (b : Bool) → list_any (λ (n : Note). nat_lt next n.place) notes ≡ true → b || list_any (λ (n : Note). nat_lt next n.place) notes ≡ true
     or true h = refl
     or false h = h
 
     by : (b : Bool) → is_same_note note other ≡ b → b || list_any (is_same_note note) notes ≡ true
-        → (list_any (is_same_note note) notes ≡ true → list_any (λ (n : Note). nat_lt next n.seq) notes ≡ true)
-        → nat_lt next other.seq || list_any (λ (n : Note). nat_lt next n.seq) notes ≡ true
-    by true s e rest = λ i. (ap (nat_lt next) (sym (same-parts note other s).1) ∙ l) i || list_any (λ (n : Note). nat_lt next n.seq) notes
-    by false s e rest = or (nat_lt next other.seq) (rest e)
+        → (list_any (is_same_note note) notes ≡ true → list_any (λ (n : Note). nat_lt next n.place) notes ≡ true)
+        → nat_lt next other.place || list_any (λ (n : Note). nat_lt next n.place) notes ≡ true
+    by true s e rest = λ i. (ap (nat_lt next) (sym (same-parts note other s).1) ∙ l) i || list_any (λ (n : Note). nat_lt next n.place) notes
+    by false s e rest = or (nat_lt next other.place) (rest e)
 
-any-different : (next : ℕ) (notes : List Note) → list_any (λ (note : Note). nat_lt next note.seq) (different notes) ≡ list_any (λ (note : Note). nat_lt next note.seq) notes
+any-different : (next : ℕ) (notes : List Note) → list_any (λ (note : Note). nat_lt next note.place) (different notes) ≡ list_any (λ (note : Note). nat_lt next note.place) notes
 any-different next [] = refl
 any-different next (note ∷ older) = by (list_any (is_same_note note) older) refl (any-different next older)
   where
-    drops : list_any (is_same_note note) older ≡ true → (b : Bool) → nat_lt next note.seq ≡ b
-        → list_any (λ (n : Note). nat_lt next n.seq) older ≡ b || list_any (λ (n : Note). nat_lt next n.seq) older
+    drops : list_any (is_same_note note) older ≡ true → (b : Bool) → nat_lt next note.place ≡ b
+        → list_any (λ (n : Note). nat_lt next n.place) older ≡ b || list_any (λ (n : Note). nat_lt next n.place) older
     drops e true l = any-later next note older e l
     drops e false l = refl
 
-    by : (b : Bool) → list_any (is_same_note note) older ≡ b → list_any (λ (n : Note). nat_lt next n.seq) (different older) ≡ list_any (λ (n : Note). nat_lt next n.seq) older
-        → list_any (λ (n : Note). nat_lt next n.seq) (cond b (different older) (note ∷ different older)) ≡ nat_lt next note.seq || list_any (λ (n : Note). nat_lt next n.seq) older
-    by true e rest = rest ∙ drops e (nat_lt next note.seq) refl
-    by false e rest = ap (λ b. nat_lt next note.seq || b) rest
+    by : (b : Bool) → list_any (is_same_note note) older ≡ b → list_any (λ (n : Note). nat_lt next n.place) (different older) ≡ list_any (λ (n : Note). nat_lt next n.place) older
+        → list_any (λ (n : Note). nat_lt next n.place) (cond b (different older) (note ∷ different older)) ≡ nat_lt next note.place || list_any (λ (n : Note). nat_lt next n.place) older
+    by true e rest = rest ∙ drops e (nat_lt next note.place) refl
+    by false e rest = ap (λ b. nat_lt next note.place || b) rest
 
-pub missing-kept : (turns : List ReplicaTurn) → missing turns ≡ missing_of (waiting_notes turns) (next_seq turns)
-missing-kept turns = λ i. cond ((sym (any-different (next_seq turns) (received turns)) ∙ any-behind (next_seq turns) (different (received turns))) i) (Some (next_seq turns)) None
+pub missing-kept : (turns : List ReplicaTurn) → missing turns ≡ missing_of (waiting_notes turns) (next_place turns)
+missing-kept turns = λ i. cond ((sym (any-different (next_place turns) (received turns)) ∙ any-behind (next_place turns) (different (received turns))) i) (Some (next_place turns)) None
 
 -- ---- a name is accepted
 
-pub accepted-kept : (name : ℕ) (older : List ReplicaTurn) → inbox_of (Accepts name ∷ older) ≡ with_name name (inbox_of older)
-accepted-kept name older = λ i. record {
+pub accepted-kept : (wrap name : ℕ) (older : List ReplicaTurn) → inbox_of wrap (Accepts name ∷ older) ≡ with_name name (inbox_of wrap older)
+accepted-kept wrap name older = λ i. record {
+  wrap = wrap;
   accepted = Some name;
   out = false;
   next = ends i;
@@ -141,21 +142,22 @@ accepted-kept name older = λ i. record {
         run-same 0 (of_name name (early_notes older)) (different (of_name name (early_notes older))) (λ q l. sym (different-has name q (of_name name (early_notes older)) named))
         ∙ ap (run_end 0) (different-of_name name (early_notes older))
 
-pub accepted-taken : (name : ℕ) (older : List ReplicaTurn) → taken_by (Accepts name) older ≡ taken_early name (inbox_of older)
-accepted-taken name older =
-    notes-same 0 (next_seq (Accepts name ∷ older)) (of_name name (early_notes older)) (different (of_name name (early_notes older)))
+pub accepted-taken : (wrap name : ℕ) (older : List ReplicaTurn) → taken_by (Accepts name) older ≡ taken_early name (inbox_of wrap older)
+accepted-taken wrap name older =
+    notes-same 0 (next_place (Accepts name ∷ older)) (of_name name (early_notes older)) (different (of_name name (early_notes older)))
     (λ q m l. sym (different-note name q (of_name name (early_notes older)) (of_name-of name (early_notes older))))
-    ∙ (λ i. notes_from_to 0 (ap (λ (kept : KeptInbox). kept.next) (accepted-kept name older) i) (different-of_name name (early_notes older) i))
+    ∙ (λ i. notes_from_to 0 (ap (λ (kept : KeptInbox). kept.next) (accepted-kept wrap name older) i) (different-of_name name (early_notes older) i))
 
 -- ---- a note is delivered
 
 -- what is owed of an arrival
-abbrev IsKept : Note → List ReplicaTurn → Arrival → Type 0
-IsKept note older arrives = is_turned_away arrives ≡ false →
-    (inbox_of (Delivers note ∷ older) ≡ with_note arrives note (inbox_of older)) × (taken_by (Delivers note) older ≡ taken_in arrives note (inbox_of older))
+abbrev IsKept : ℕ → Note → List ReplicaTurn → Arrival → Type 0
+IsKept wrap note older arrives = is_turned_away arrives ≡ false →
+    (inbox_of wrap (Delivers note ∷ older) ≡ with_note arrives note (inbox_of wrap older))
+    × (taken_by (Delivers note) older ≡ taken_in arrives note (inbox_of wrap older))
 
 -- a note of the accepted name
-module _ (note : Note) (older : List ReplicaTurn) (e : is_accepted note.name older ≡ true) where
+module _ (wrap : ℕ) (note : Note) (older : List ReplicaTurn) (e : is_accepted note.name older ≡ true) where
   abbrev R : List Note
   R = received older
 
@@ -163,10 +165,10 @@ module _ (note : Note) (older : List ReplicaTurn) (e : is_accepted note.name old
   W = waiting_notes older
 
   abbrev E : ℕ
-  E = run_after (inbox_of older)
+  E = run_after (inbox_of wrap older)
 
   abbrev now : ℕ → List Note → KeptInbox
-  now next waiting = record { accepted = accepted older; out = is_out older; next = next; waiting = waiting; early = different (early_notes older) }
+  now next waiting = record { wrap = wrap; accepted = accepted older; out = is_out older; next = next; waiting = waiting; early = different (early_notes older) }
 
   named : AreOf note.name R
   named = received-of note.name older (accepted-name note.name older e)
@@ -178,8 +180,9 @@ module _ (note : Note) (older : List ReplicaTurn) (e : is_accepted note.name old
       by true = ap not e
       by false = refl
 
-  inbox : inbox_of (Delivers note ∷ older) ≡ now (run_end 0 (note ∷ R)) (behind (run_end 0 (note ∷ R)) (different (note ∷ R)))
+  inbox : inbox_of wrap (Delivers note ∷ older) ≡ now (run_end 0 (note ∷ R)) (behind (run_end 0 (note ∷ R)) (different (note ∷ R)))
   inbox = λ i. record {
+    wrap = wrap;
     accepted = accepted older;
     out = is_out older;
     next = run_end 0 (cond (e i) (note ∷ R) R);
@@ -187,100 +190,101 @@ module _ (note : Note) (older : List ReplicaTurn) (e : is_accepted note.name old
     early = different (cond (not-early i) (note ∷ early_notes older) (early_notes older));
   }
 
-  taken : taken_by (Delivers note) older ≡ notes_from_to (next_seq older) (run_end 0 (note ∷ R)) (note ∷ R)
-  taken = λ i. cond (e i) (notes_from_to (next_seq older) (run_end 0 (cond (e i) (note ∷ R) R)) (cond (e i) (note ∷ R) R)) []
+  taken : taken_by (Delivers note) older ≡ notes_from_to (next_place older) (run_end 0 (note ∷ R)) (note ∷ R)
+  taken = λ i. cond (e i) (notes_from_to (next_place older) (run_end 0 (cond (e i) (note ∷ R) R)) (cond (e i) (note ∷ R) R)) []
 
   -- a repeat
-  again : has_seq R note.seq ≡ true → IsKept note older IsRepeat
+  again : has_place R note.place ≡ true → IsKept wrap note older IsRepeat
   again have away = (
     inbox ∙ (λ i. now (ends i) (behind (ends i) (differ i))),
-    taken ∙ notes-none (next_seq older) (run_end 0 (note ∷ R)) (note ∷ R) (omega (arith, ends)),
+    taken ∙ notes-none (next_place older) (run_end 0 (note ∷ R)) (note ∷ R) (omega (arith, ends)),
   )
     where
-      has : (q : ℕ) (b : Bool) → nat_eq note.seq q ≡ b → b || has_seq R q ≡ has_seq R q
-      has q true s = sym (ap (has_seq R) (sym (eqb-true note.seq q s)) ∙ have)
+      has : (q : ℕ) (b : Bool) → nat_eq note.place q ≡ b → b || has_place R q ≡ has_place R q
+      has q true s = sym (ap (has_place R) (sym (eqb-true note.place q s)) ∙ have)
       has q false s = refl
 
-      ends : run_end 0 (note ∷ R) ≡ next_seq older
-      ends = run-same 0 (note ∷ R) R (λ q l. has q (nat_eq note.seq q) refl)
+      ends : run_end 0 (note ∷ R) ≡ next_place older
+      ends = run-same 0 (note ∷ R) R (λ q l. has q (nat_eq note.place q) refl)
 
       differ : different (note ∷ R) ≡ different R
       differ = λ i. cond ((any-has note R named ∙ have) i) (different R) (note ∷ different R)
 
   -- one that was not received before
-  module _ (new : has_seq R note.seq ≡ false) where
+  module _ (new : has_place R note.place ≡ false) where
     differ : different (note ∷ R) ≡ note ∷ different R
     differ = λ i. cond ((any-has note R named ∙ new) i) (different R) (note ∷ different R)
 
     -- behind the next one
-    later : next_seq older < note.seq → (seq : ℕ) → IsKept note older (IsHeld seq)
-    later l seq away = (
-      inbox ∙ (λ i. now (ends i) (behind (ends i) (differ i))) ∙ (λ i. now (next_seq older) (cond (lt-ltb (next_seq older) note.seq l i) (note ∷ waiting_notes older) (waiting_notes older))),
-      taken ∙ notes-none (next_seq older) (run_end 0 (note ∷ R)) (note ∷ R) (omega (arith, ends)),
+    later : next_place older < note.place → (place : ℕ) → IsKept wrap note older (IsHeld place)
+    later l place away = (
+      inbox ∙ (λ i. now (ends i) (behind (ends i) (differ i))) ∙ (λ i. now (next_place older) (cond (lt-ltb (next_place older) note.place l i) (note ∷ waiting_notes older) (waiting_notes older))),
+      taken ∙ notes-none (next_place older) (run_end 0 (note ∷ R)) (note ∷ R) (omega (arith, ends)),
     )
       where
-        or : (b : Bool) (q : ℕ) → has_seq R q ≡ true → b || has_seq R q ≡ true
+        or : (b : Bool) (q : ℕ) → has_place R q ≡ true → b || has_place R q ≡ true
         or true q h = refl
         or false q h = h
 
-        ends : run_end 0 (note ∷ R) ≡ next_seq older
+        ends : run_end 0 (note ∷ R) ≡ next_place older
         ends =
-            run-is 0 (next_seq older) (note ∷ R) (omega arith) (λ q m n. or (nat_eq note.seq q) q ((longest-run older).0 q n))
-            ((λ i. ne_eqb note.seq (next_seq older) (λ s. omega (arith, s, l)) i || has_seq R (next_seq older)) ∙ (longest-run older).1)
+            run-is 0 (next_place older) (note ∷ R) (omega arith) (λ q m n. or (nat_eq note.place q) q ((longest-run older).0 q n))
+            ((λ i. ne_eqb note.place (next_place older) (λ s. omega (arith, s, l)) i || has_place R (next_place older)) ∙ (longest-run older).1)
 
     -- the next one
-    here : note.seq ≡ next_seq older → IsKept note older IsNext
+    here : note.place ≡ next_place older → IsKept wrap note older IsNext
     here same away = (
       inbox ∙ (λ i. now (ends i) (behind (ends i) (differ i))) ∙ (λ i. now E (left i)),
-      taken ∙ ap (λ (n : ℕ). notes_from_to (next_seq older) n (note ∷ R)) ends
-          ∙ notes-more (next_seq older) E (note ∷ R) (omega (arith, above))
-          ∙ (λ i. cons_option (note-new (next_seq older) note R (longest-run older).1 same i)
-          (notes-same (next_seq older + 1) E (note ∷ R) W (λ q low high. of-waiting q low) i)),
+      taken ∙ ap (λ (n : ℕ). notes_from_to (next_place older) n (note ∷ R)) ends
+          ∙ notes-more (next_place older) E (note ∷ R) (omega (arith, above))
+          ∙ (λ i. cons_option (note-new (next_place older) note R (longest-run older).1 same i)
+          (notes-same (next_place older + 1) E (note ∷ R) W (λ q low high. of-waiting q low) i)),
     )
       where
-        above : next_seq older + 1 ≤ E
-        above = run-from (next_seq older + 1) W
+        above : next_place older + 1 ≤ E
+        above = run-from (next_place older + 1) W
 
-        waits : (q : ℕ) → next_seq older < q → has_seq W q ≡ has_seq R q
-        waits q l = behind-has (next_seq older) q (different R) l ∙ different-has note.name q R named
+        waits : (q : ℕ) → next_place older < q → has_place W q ≡ has_place R q
+        waits q l = behind-has (next_place older) q (different R) l ∙ different-has note.name q R named
 
-        apart : (q : ℕ) → next_seq older < q → nat_eq note.seq q ≡ false
-        apart q l = ne_eqb note.seq q (λ s. omega (arith, s, l, same))
+        apart : (q : ℕ) → next_place older < q → nat_eq note.place q ≡ false
+        apart q l = ne_eqb note.place q (λ s. omega (arith, s, l, same))
 
-        inside : (q : ℕ) → q < E → nat_eq note.seq q || has_seq R q ≡ true
-        inside q l = by (cases_lt q (next_seq older)) (cases_lt (next_seq older) q)
+        inside : (q : ℕ) → q < E → nat_eq note.place q || has_place R q ≡ true
+        inside q l = by (cases_lt q (next_place older)) (cases_lt (next_place older) q)
           where
-            or : (b : Bool) → has_seq R q ≡ true → b || has_seq R q ≡ true
+            or : (b : Bool) → has_place R q ≡ true → b || has_place R q ≡ true
             or true h = refl
             or false h = h
 
-            by : (q < next_seq older) ⊎ (next_seq older ≤ q) → (next_seq older < q) ⊎ (q ≤ next_seq older) → nat_eq note.seq q || has_seq R q ≡ true
-            by (inl m) n = or (nat_eq note.seq q) ((longest-run older).0 q m)
-            by (inr m) (inl n) = or (nat_eq note.seq q) (sym (waits q n) ∙ run-inside (next_seq older + 1) q W (omega (arith, n)) l)
+            by : (q < next_place older) ⊎ (next_place older ≤ q) → (next_place older < q) ⊎ (q ≤ next_place older) → nat_eq note.place q || has_place R q ≡ true
+            by (inl m) n = or (nat_eq note.place q) ((longest-run older).0 q m)
+            by (inr m) (inl n) = or (nat_eq note.place q) (sym (waits q n) ∙ run-inside (next_place older + 1) q W (omega (arith, n)) l)
             by (inr m) (inr n) =
-                let is : note.seq ≡ q = omega (arith, m, n, same) in
-                (λ i. eq-eqb note.seq q is i || has_seq R q)
+                let is : note.place ≡ q = omega (arith, m, n, same) in
+                (λ i. eq-eqb note.place q is i || has_place R q)
 
         ends : run_end 0 (note ∷ R) ≡ E
         ends =
             run-is 0 E (note ∷ R) (omega arith) (λ q m n. inside q n)
-            ((λ i. apart E (omega (arith, above)) i || has_seq R E) ∙ sym (waits E (omega (arith, above))) ∙ run-outside (next_seq older + 1) W)
+            ((λ i. apart E (omega (arith, above)) i || has_place R E) ∙ sym (waits E (omega (arith, above))) ∙ run-outside (next_place older + 1) W)
 
         left : behind E (note ∷ different R) ≡ behind E W
         left =
-            (λ i. cond (le-ltb E note.seq (omega (arith, above, same)) i) (note ∷ behind E (different R)) (behind E (different R)))
-            ∙ sym (behind-behind (next_seq older) E (different R) (omega (arith, above)))
+            (λ i. cond (le-ltb E note.place (omega (arith, above, same)) i) (note ∷ behind E (different R)) (behind E (different R)))
+            ∙ sym (behind-behind (next_place older) E (different R) (omega (arith, above)))
 
-        of-waiting : (q : ℕ) → next_seq older + 1 ≤ q → note_of q (note ∷ R) ≡ note_of q W
+        of-waiting : (q : ℕ) → next_place older + 1 ≤ q → note_of q (note ∷ R) ≡ note_of q W
         of-waiting q l =
             note-past q note R (apart q (omega (arith, l))) ∙ sym (different-note note.name q R named)
-            ∙ sym (behind-note (next_seq older) q (different R) (omega (arith, l)))
+            ∙ sym (behind-note (next_place older) q (different R) (omega (arith, l)))
 
 -- a note of another name, while a request is out
-module _ (note : Note) (older : List ReplicaTurn) (e : is_accepted note.name older ≡ false) (o : is_out older ≡ true) where
+module _ (wrap : ℕ) (note : Note) (older : List ReplicaTurn) (e : is_accepted note.name older ≡ false) (o : is_out older ≡ true) where
   other-inbox : (b : Bool) → list_any (is_same_note note) (early_notes older) ≡ b
-      → inbox_of (Delivers note ∷ older) ≡ record (inbox_of older) { early = cond b (different (early_notes older)) (note ∷ different (early_notes older)) }
+      → inbox_of wrap (Delivers note ∷ older) ≡ record (inbox_of wrap older) { early = cond b (different (early_notes older)) (note ∷ different (early_notes older)) }
   other-inbox b f = λ i. record {
+    wrap = wrap;
     accepted = accepted older;
     out = is_out older;
     next = run_end 0 (cond (e i) (note ∷ received older) (received older));
@@ -293,54 +297,54 @@ module _ (note : Note) (older : List ReplicaTurn) (e : is_accepted note.name old
       is-early = λ i. o i && not (e i)
 
   other-taken : taken_by (Delivers note) older ≡ []
-  other-taken = λ i. cond (e i) (notes_from_to (next_seq older) (next_seq (Delivers note ∷ older)) (received (Delivers note ∷ older))) []
+  other-taken = λ i. cond (e i) (notes_from_to (next_place older) (next_place (Delivers note ∷ older)) (received (Delivers note ∷ older))) []
 
 -- what is kept after a note that is not turned away, and which notes it lets the replica take
-pub delivered-kept : (note : Note) (older : List ReplicaTurn) → IsKept note older (arrival note older)
-delivered-kept note older = by (is_accepted note.name older) refl (is_repeat note older) refl
+pub delivered-kept : (wrap : ℕ) (note : Note) (older : List ReplicaTurn) → IsKept wrap note older (arrival note older)
+delivered-kept wrap note older = by (is_accepted note.name older) refl (is_repeat note older) refl
   where
     is-false : {A : Type 0} → true ≡ false → A
     is-false e = absurd (true≢false e)
 
     by : (a : Bool) → is_accepted note.name older ≡ a → (r : Bool) → is_repeat note older ≡ r
-        → IsKept note older (cond (not a && not (is_out older)) IsUnknown
+        → IsKept wrap note older (cond (not a && not (is_out older)) IsUnknown
         (cond r IsRepeat
-        (cond (not (a && nat_eq note.seq (next_seq older)) && nat_le held_limit (length (held_notes older))) (IsTooMany (length (held_notes older)))
-        (cond (not a) IsEarly (cond (nat_lt (next_seq older) note.seq) (IsHeld (next_seq older)) IsNext)))))
-    by true e true f = again note older e ((λ i. cond (sym e i) (has_seq (received older) note.seq) (is_out older && list_any (is_same_note note) (early_notes older))) ∙ f)
-    by true e false f = full (not (nat_eq note.seq (next_seq older)) && nat_le held_limit (length (held_notes older)))
+        (cond (not (a && nat_eq note.place (next_place older)) && nat_le held_limit (length (held_notes older))) (IsTooMany (length (held_notes older)))
+        (cond (not a) IsEarly (cond (nat_lt (next_place older) note.place) (IsHeld (next_place older)) IsNext)))))
+    by true e true f = again wrap note older e ((λ i. cond (sym e i) (has_place (received older) note.place) (is_out older && list_any (is_same_note note) (early_notes older))) ∙ f)
+    by true e false f = full (not (nat_eq note.place (next_place older)) && nat_le held_limit (length (held_notes older)))
       where
-        new : has_seq (received older) note.seq ≡ false
-        new = (λ i. cond (sym e i) (has_seq (received older) note.seq) (is_out older && list_any (is_same_note note) (early_notes older))) ∙ f
+        new : has_place (received older) note.place ≡ false
+        new = (λ i. cond (sym e i) (has_place (received older) note.place) (is_out older && list_any (is_same_note note) (early_notes older))) ∙ f
 
-        at : (b : Bool) → nat_lt (next_seq older) note.seq ≡ b → IsKept note older (cond b (IsHeld (next_seq older)) IsNext)
-        at true l = later note older e new (ltb-true (next_seq older) note.seq l) (next_seq older)
-        at false l = least (cases_lt note.seq (next_seq older))
+        at : (b : Bool) → nat_lt (next_place older) note.place ≡ b → IsKept wrap note older (cond b (IsHeld (next_place older)) IsNext)
+        at true l = later wrap note older e new (ltb-true (next_place older) note.place l) (next_place older)
+        at false l = least (cases_lt note.place (next_place older))
           where
-            least : (note.seq < next_seq older) ⊎ (next_seq older ≤ note.seq) → IsKept note older IsNext
-            least (inl m) = is-false (sym ((longest-run older).0 note.seq m) ∙ new)
-            least (inr m) = let n = ltb-false (next_seq older) note.seq l in here note older e new (omega (arith, m, n))
+            least : (note.place < next_place older) ⊎ (next_place older ≤ note.place) → IsKept wrap note older IsNext
+            least (inl m) = is-false (sym ((longest-run older).0 note.place m) ∙ new)
+            least (inr m) = let n = ltb-false (next_place older) note.place l in here wrap note older e new (omega (arith, m, n))
 
-        full : (b : Bool) → IsKept note older (cond b (IsTooMany (length (held_notes older))) (cond (nat_lt (next_seq older) note.seq) (IsHeld (next_seq older)) IsNext))
+        full : (b : Bool) → IsKept wrap note older (cond b (IsTooMany (length (held_notes older))) (cond (nat_lt (next_place older) note.place) (IsHeld (next_place older)) IsNext))
         full true = λ away. is-false away
-        full false = at (nat_lt (next_seq older) note.seq) refl
+        full false = at (nat_lt (next_place older) note.place) refl
     by false e r f = out (is_out older) refl r f
       where
         out : (o : Bool) → is_out older ≡ o → (r : Bool) → is_repeat note older ≡ r
-            → IsKept note older (cond (not o) IsUnknown
+            → IsKept wrap note older (cond (not o) IsUnknown
             (cond r IsRepeat
             (cond (nat_le held_limit (length (held_notes older))) (IsTooMany (length (held_notes older))) IsEarly)))
         out false o r f = λ away. is-false away
-        out true o true f = λ away. (other-inbox note older e o true (any true f), other-taken note older e o)
+        out true o true f = λ away. (other-inbox wrap note older e o true (any true f), other-taken wrap note older e o)
           where
             any : (r : Bool) → is_repeat note older ≡ r → list_any (is_same_note note) (early_notes older) ≡ r
             any r f =
-                (λ i. cond (sym e i) (has_seq (received older) note.seq) (sym o i && list_any (is_same_note note) (early_notes older))) ∙ f
+                (λ i. cond (sym e i) (has_place (received older) note.place) (sym o i && list_any (is_same_note note) (early_notes older))) ∙ f
         out true o false f = full (nat_le held_limit (length (held_notes older)))
           where
             any : list_any (is_same_note note) (early_notes older) ≡ false
-            any = (λ i. cond (sym e i) (has_seq (received older) note.seq) (sym o i && list_any (is_same_note note) (early_notes older))) ∙ f
+            any = (λ i. cond (sym e i) (has_place (received older) note.place) (sym o i && list_any (is_same_note note) (early_notes older))) ∙ f
 
-            full : (b : Bool) → IsKept note older (cond b (IsTooMany (length (held_notes older))) IsEarly)
+            full : (b : Bool) → IsKept wrap note older (cond b (IsTooMany (length (held_notes older))) IsEarly)
             full true = λ away. is-false away
-            full false = λ away. (other-inbox note older e o false any, other-taken note older e o)
+            full false = λ away. (other-inbox wrap note older e o false any, other-taken wrap note older e o)

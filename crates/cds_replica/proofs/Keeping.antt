@@ -1,5 +1,5 @@
 -- What is kept beside the notes, turn by turn.
-use Rattle.std.proofs.Common.{◌≡◌, ◌+◌, ℕ, Bool, true, false, cond, nat_eq, List, [], ◌∷◌, ◌++◌, map, Option, Some, None, refl, sym, ap, ◌∙◌}
+use Rattle.std.proofs.Common.{◌≡◌, ◌+◌, ℕ, Bool, true, false, cond, nat_eq, nat_lt, List, [], ◌∷◌, ◌++◌, map, Option, Some, None, refl, sym, ap, ◌∙◌}
 use Rattle.std.specs.Prelude.{reverse}
 use Rattle.std.specs.Option.{option_map}
 use Rattle.std.specs.List.{filter_map}
@@ -10,9 +10,12 @@ use Rattle.cds_load.specs.declared.exchange.Ask.TheVariants.{Metadata}
 use Rattle.cds_load.specs.declared.exchange.Shown.{Shown}
 use Rattle.cds_load.specs.declared.exchange.Shown.TheVariants.{Text, Number, Page, Fault}
 use Rattle.cds_commands.specs.Notes.{Note, changes_above}
-use Rattle.cds_follow.specs.Copy.{Happening, Changes, Reads, rows_after, shown_row, known_of, least_unread}
+use Rattle.cds_follow.specs.Copy.{Happening, Changes, Reads, rows_after, shown_row, known_of, least_unread, read_up_to}
+use Rattle.cds_commands.specs.Places.{seq_at}
 use Rattle.cds_follow.specs.Inbox.{ReplicaTurn, missing}
-use Rattle.cds_follow.specs.Follow.{Known, position, first_torn, judged, counted_from, with_changes, load_begun, new_changes, greatest_of, is_drop, heard_of, with_notes, loaded, is_of, row_read, object_read, copy_read, with_reply, known_by, next_ask, ask_of, copy_says, says_without_gap, says_of, says, rows_held, copied}
+use Rattle.cds_follow.specs.Wire.{says_by_seq, says_on_wire}
+use Rattle.cds_follow.specs.declared.says.Says.TheVariants.{BehindVersion, Stands}
+use Rattle.cds_follow.specs.Follow.{Known, position, first_torn, judged, counted_from, with_changes, load_begun, new_changes, greatest_of, is_drop, heard_of, with_notes, loaded, is_of, row_read, object_read, copy_read, with_reply, known_by, next_ask, ask_of, copy_says, says_without_gap, says_of, rows_held, copied}
 use Rattle.cds_replica.specs.CopyState.{KeptCopy, copy_of, IsSound, AreAbove}
 use Rattle.cds_replica.specs.CopySteps.{count_from, count_of, copy_read as copy_with, version_of}
 use Rattle.cds_replica.specs.Ended.{end_count}
@@ -158,8 +161,8 @@ asks Idle known sound = refl
 asks (Loads stage) known sound = refl
 asks (HasCopy number rows) known sound = ap (option_map (λ (id : ℕ). Metadata id)) (sym (least-kept rows known.happenings sound))
 
-pub ask-kept : (turns : List ReplicaTurn) → phase_ask (kept_of turns).known.phase ≡ next_ask (known_by turns)
-ask-kept turns = asks (known_by turns).held (known_by turns) (turns-sound turns)
+pub ask-kept : (wrap : ℕ) (turns : List ReplicaTurn) → phase_ask (kept_of wrap turns).known.phase ≡ next_ask (known_by turns)
+ask-kept wrap turns = asks (known_by turns).held (known_by turns) (turns-sound turns)
 
 tells-kept : (held : Held) (known : Known) → SoundHeld held known.happenings → phase_tells (kept_known known) (phase_of held known.happenings) ≡ says_without_gap known held
 tells-kept Idle known sound = refl
@@ -171,25 +174,40 @@ tells-kept (HasCopy number rows) known sound =
     by None = refl
     by (Some id) = refl
 
-pub says-kept : (turns : List ReplicaTurn) → kept_says (kept_of turns) ≡ says turns
-says-kept turns =
-    (λ i. tells_or_gap (sym (missing-kept turns) i) (tells-kept (known_by turns).held (known_by turns) (turns-sound turns) i)) ∙ by (missing turns)
+-- without a gap the same is said on the wire
+pub no-gap : (wrap : ℕ) (known : Known) (held : Held) → says_without_gap known held ≡ says_by_seq wrap (says_without_gap known held)
+no-gap wrap known Idle = refl
+no-gap wrap known (Loads stage) = refl
+no-gap wrap known (HasCopy number rows) = by (least_unread known.happenings)
   where
-    by : (o : Option ℕ) → tells_or_gap o (says_without_gap (known_by turns) (known_by turns).held) ≡ says_of o (known_by turns)
-    by None = refl
-    by (Some seq) = refl
+    at : (b : Bool) → cond b (BehindVersion (read_up_to known.happenings)) (Stands (position known))
+        ≡ says_by_seq wrap (cond b (BehindVersion (read_up_to known.happenings)) (Stands (position known)))
+    at true = refl
+    at false = refl
+
+    by : (o : Option ℕ) → copy_says known o ≡ says_by_seq wrap (copy_says known o)
+    by None = at (nat_lt (position known) (read_up_to known.happenings))
+    by (Some id) = refl
+
+pub says-kept : (wrap : ℕ) (turns : List ReplicaTurn) → kept_says (kept_of wrap turns) ≡ says_on_wire wrap turns
+says-kept wrap turns =
+    (λ i. tells_or_gap (option_map (seq_at wrap) (sym (missing-kept turns) i)) (tells-kept (known_by turns).held (known_by turns) (turns-sound turns) i)) ∙ by (missing turns)
+  where
+    by : (o : Option ℕ) → tells_or_gap (option_map (seq_at wrap) o) (says_without_gap (known_by turns) (known_by turns).held) ≡ says_by_seq wrap (says_of o (known_by turns))
+    by None = no-gap wrap (known_by turns) (known_by turns).held
+    by (Some place) = refl
 
 rows-held : (held : Held) (happenings : List Happening) → phase_rows (phase_of held happenings) ≡ rows_held held happenings
 rows-held Idle happenings = refl
 rows-held (Loads stage) happenings = refl
 rows-held (HasCopy number rows) happenings = ap (filter_map shown_row) (known-copied rows happenings)
 
-pub rows-kept : (turns : List ReplicaTurn) → phase_rows (kept_of turns).known.phase ≡ copied (known_by turns)
-rows-kept turns = rows-held (known_by turns).held (known_by turns).happenings
+pub rows-kept : (wrap : ℕ) (turns : List ReplicaTurn) → phase_rows (kept_of wrap turns).known.phase ≡ copied (known_by turns)
+rows-kept wrap turns = rows-held (known_by turns).held (known_by turns).happenings
 
 all-rows : (phase : KeptPhase) → filter_map shown_row (phase_all phase) ≡ phase_rows phase
 all-rows (NoCopy held) = refl
 all-rows (Copies number copy) = refl
 
-pub all-kept : (turns : List ReplicaTurn) → filter_map shown_row (phase_all (kept_of turns).known.phase) ≡ copied (known_by turns)
-all-kept turns = all-rows (kept_of turns).known.phase ∙ rows-kept turns
+pub all-kept : (wrap : ℕ) (turns : List ReplicaTurn) → filter_map shown_row (phase_all (kept_of wrap turns).known.phase) ≡ copied (known_by turns)
+all-kept wrap turns = all-rows (kept_of wrap turns).known.phase ∙ rows-kept wrap turns

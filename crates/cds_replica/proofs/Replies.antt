@@ -28,8 +28,8 @@ next-one : ReadingsAreOne → (ask : Option Ask) (bytes : List ℕ) (one other :
 next-one law None bytes one other is also = is ∙ sym also
 next-one law (Some ask) bytes one other is also = law ask bytes one other is also
 
-ask-is : (kept : ReplicaState) (turns : List ReplicaTurn) → StandsFor kept turns → phase_ask kept.known.phase ≡ next_ask (known_by turns)
-ask-is kept turns stood = ap (λ (k : ReplicaState). phase_ask k.known.phase) stood ∙ ask-kept turns
+ask-is : (kept : ReplicaState) (wrap : ℕ) (turns : List ReplicaTurn) → StandsFor kept wrap turns → phase_ask kept.known.phase ≡ next_ask (known_by turns)
+ask-is kept wrap turns stood = ap (λ (k : ReplicaState). phase_ask k.known.phase) stood ∙ ask-kept wrap turns
 
 -- nothing and something are never both read
 not-both : ReadingsAreOne → (ask : Option Ask) (bytes : List ℕ) (shown : Shown) → IsNextReading ask bytes None → IsNextReading ask bytes (Some shown) → ⊥
@@ -39,10 +39,10 @@ some-one : ReadingsAreOne → (ask : Option Ask) (bytes : List ℕ) (one other :
 some-one law ask bytes one other is also = let e = next-one law ask bytes (Some one) (Some other) is also in cc
 
 -- one reading of the bytes to the next ask, beside another after turns
-turns-one : ReadingsAreOne → (kept : ReplicaState) (bytes : List ℕ) (read other : Option Shown) (turns : List ReplicaTurn) → StandsFor kept turns
+turns-one : ReadingsAreOne → (kept : ReplicaState) (bytes : List ℕ) (read other : Option Shown) (wrap : ℕ) (turns : List ReplicaTurn) → StandsFor kept wrap turns
     → IsNextReading (phase_ask kept.known.phase) bytes read → IsNextReading (next_ask (known_by turns)) bytes other → read ≡ other
-turns-one law kept bytes read other turns stood is also =
-    next-one law (next_ask (known_by turns)) bytes read other (subst (λ (ask : Option Ask). IsNextReading ask bytes read) (ask-is kept turns stood) is) also
+turns-one law kept bytes read other wrap turns stood is also =
+    next-one law (next_ask (known_by turns)) bytes read other (subst (λ (ask : Option Ask). IsNextReading ask bytes read) (ask-is kept wrap turns stood) is) also
 
 -- a fact that holds unless memory ran out
 pub unless : {P Q : Type 0} (result : Result Read AnswerError) → (P → Q) → UnlessMem result P → UnlessMem result Q
@@ -83,22 +83,22 @@ pub reply-stands : ReadingsAreOne → (old new : ReplicaState) (bytes : List ℕ
 reply-stands law old new bytes read result is takes = by read is takes
   where
     each : (r : Option Shown) → IsNextReading (phase_ask old.known.phase) bytes r
-        → ((turns : List ReplicaTurn) → StandsFor old turns → StandsFor new (and_shown r turns)) → TakesReply old bytes new
-    each r here all turns other stood also =
-        subst (λ (o : Option Shown). StandsFor new (and_shown o turns)) (turns-one law old bytes r other turns stood here also) (all turns stood)
+        → ((wrap : ℕ) (turns : List ReplicaTurn) → StandsFor old wrap turns → StandsFor new wrap (and_shown r turns)) → TakesReply old bytes new
+    each r here all wrap turns other stood also =
+        subst (λ (o : Option Shown). StandsFor new wrap (and_shown o turns)) (turns-one law old bytes r other wrap turns stood here also) (all wrap turns stood)
 
     by : (r : Option Shown) → IsNextReading (phase_ask old.known.phase) bytes r → TakesRead old r new result → UnlessMem result (TakesReply old bytes new)
-    by None here takes = always result (each None here (λ turns stood. takes.unchanged ∙ stood))
+    by None here takes = always result (each None here (λ wrap turns stood. takes.unchanged ∙ stood))
     by (Some shown) here takes = unless result (each (Some shown) here) takes.stands
 
 pub reply-answers : ReadingsAreOne → (old new : ReplicaState) (bytes : List ℕ) (read : Option Shown) (result : Result Read AnswerError)
     → IsNextReading (phase_ask old.known.phase) bytes read → TakesRead old read new result → AnswersReply old bytes result
-reply-answers law old new bytes read result is takes turns other stood also =
-    subst (λ (o : Option Shown). IsAnswer (with_reading (known_by turns) o) result) (turns-one law old bytes read other turns stood is also) (by read takes)
+reply-answers law old new bytes read result is takes wrap turns other stood also =
+    subst (λ (o : Option Shown). IsAnswer (with_reading (known_by turns) o) result) (turns-one law old bytes read other wrap turns stood is also) (by read takes)
   where
     by : (r : Option Shown) → TakesRead old r new result → IsAnswer (with_reading (known_by turns) r) result
     by None taken = subst (IsAnswer CannotBeRead) (sym taken.refused) refl
-    by (Some shown) taken = taken.answer turns stood
+    by (Some shown) taken = taken.answer wrap turns stood
 
 pub reply-reads : ReadingsAreOne → (old new : ReplicaState) (bytes : List ℕ) (read : Option Shown) (result : Result Read AnswerError)
     → IsNextReading (phase_ask old.known.phase) bytes read → TakesRead old read new result
@@ -122,7 +122,7 @@ IsFalse false = Unit {0}
 
 pub reply-given : ReadingsAreOne → (old new : ReplicaState) (bytes : List ℕ) (read : Option Shown) (result : Result Read AnswerError)
     → IsSome (phase_ask old.known.phase) → IsNextReading (phase_ask old.known.phase) bytes read → TakesRead old read new result → AnswersGiven old bytes new result
-reply-given law old new bytes read result some is takes token names first commands entries k apart accepted given stood replies =
+reply-given law old new bytes read result some is takes token names wrap first commands entries k apart accepted given stood replies =
     by read (next_ask (known_by turns)) refl (subst (λ (ask : Option Ask). IsNextReading ask bytes read) asks is) takes
   where
     turns : List ReplicaTurn
@@ -132,7 +132,7 @@ reply-given law old new bytes read result some is takes token names first comman
     moment = moment_after token first (oldest k commands)
 
     asks : phase_ask old.known.phase ≡ next_ask (known_by turns)
-    asks = ask-is old (named names turns) stood ∙ ap next_ask (given-same token names first commands entries apart given.2).knows
+    asks = ask-is old wrap (named names turns) stood ∙ ap next_ask (given-same token names first commands entries apart given.2).knows
 
     shows : (ask : Ask) → next_ask (known_by turns) ≡ Some ask → (other : Option Shown) → IsNextReading (next_ask (known_by turns)) bytes other
         → other ≡ Some (reply_to moment ask)
@@ -140,9 +140,9 @@ reply-given law old new bytes read result some is takes token names first comman
         law ask bytes other (Some (reply_to moment ask)) (subst (λ (o : Option Ask). IsNextReading o bytes other) e also) (replies ask e)
 
     by : (r : Option Shown) (o : Option Ask) → next_ask (known_by turns) ≡ o → IsNextReading (next_ask (known_by turns)) bytes r → TakesRead old r new result
-        → IsReadThen result (StandsFor new (named names (given_by token first commands (Asks k ∷ entries))))
+        → IsReadThen result (StandsFor new wrap (named names (given_by token first commands (Asks k ∷ entries))))
     by r None e also taken = let no : false ≡ true = subst IsSome (asks ∙ e) some in absurd (subst IsFalse no tt)
     by None (Some ask) e also taken = let no : None ≡ Some (reply_to moment ask) = shows ask e None also in absurd (cc)
     by (Some shown) (Some ask) e also taken =
-        taken.given token names first commands entries k apart accepted given stood
+        taken.given token names wrap first commands entries k apart accepted given stood
         (ap (option_map (reply_to moment)) e ∙ sym (shows ask e (Some shown) also))

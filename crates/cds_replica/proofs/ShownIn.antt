@@ -12,7 +12,7 @@ use Rattle.cds_follow.specs.Follow.{copied, known_by, is_refused, and_turn}
 use Rattle.cds_follow.specs.Seen.{WasShown}
 use Rattle.cds_replica.specs.Calls.{UnlessMem}
 use Rattle.cds_replica.specs.Replies.{IsNextReading, TakesRead}
-use Rattle.cds_replica.specs.ShownIn.{IsShownIn, AreShownIn, HasRow, WasInReply, GoesOnIn, WasReplied}
+use Rattle.cds_replica.specs.ShownIn.{IsShownIn, AreShownIn, WasInReply, GoesOnIn, WasReplied}
 use Rattle.cds_replica.specs.State.{ReplicaState, StandsFor}
 use Rattle.cds_replica.specs.Steps.{phase_ask}
 use Rattle.cds_replica.specs.declared.error.AnswerError.{AnswerError}
@@ -45,11 +45,11 @@ and-shown_in bytes replies turns shown reads are = by (is_refused (Shows shown) 
 pub reply-goes : (old new : ReplicaState) (bytes : List ℕ) (read : Option Shown) (result : Result Read AnswerError)
     → IsNextReading (phase_ask old.known.phase) bytes read → TakesRead old read new result → UnlessMem result (GoesOnIn old bytes new)
 reply-goes old new bytes None result is takes =
-    always result (λ replies turns stood are. (turns, takes.unchanged ∙ stood, and-reply bytes replies turns are))
+    always result (λ replies wrap turns stood are. (turns, takes.unchanged ∙ stood, and-reply bytes replies turns are))
 reply-goes old new bytes (Some shown) result is takes =
     unless result
-    (λ goes replies turns stood are.
-    (and_turn (Shows shown) turns, goes turns stood, and-shown_in bytes replies turns shown (asked-in (phase_ask old.known.phase) bytes shown is) are))
+    (λ goes replies wrap turns stood are.
+    (and_turn (Shows shown) turns, goes wrap turns stood, and-shown_in bytes replies turns shown (asked-in (phase_ask old.known.phase) bytes shown is) are))
     takes.stands
 
 -- what was shown was in a reply
@@ -69,7 +69,7 @@ was-in_reply row replies (Refuses ∷ older) are was = was-in_reply row replies 
 was-in_reply row replies (Delivers note ∷ older) are was = was-in_reply row replies older are was
 
 pub rows-replied : (kept : ReplicaState) (at : ℕ) (result : Option (Bor ObjectRow))
-    → ((turns : List ReplicaTurn) → StandsFor kept turns → option_copied result ≡ slice_get (copied (known_by turns)) at)
+    → ((wrap : ℕ) (turns : List ReplicaTurn) → StandsFor kept wrap turns → option_copied result ≡ slice_get (copied (known_by turns)) at)
     → IfSome result (λ row. WasReplied kept row.now)
 rows-replied kept at None is = tt
-rows-replied kept at (Some row) is = λ replies turns stood are. was-in_reply row.now replies turns are (rows-shown kept at (Some row) turns is stood)
+rows-replied kept at (Some row) is = λ replies wrap turns stood are. was-in_reply row.now replies turns are (rows-shown kept at (Some row) wrap turns is stood)

@@ -3,12 +3,12 @@ use Rattle.std.proofs.Common.{◌≡◌, ◌+◌, ◌<◌, ◌≤◌, ℕ, zero,
 use Rattle.std.specs.Option.{option_eq}
 use Rattle.std.specs.List.{AllByRecursion, list_any, filter, cons_option}
 use Rattle.cds_commands.specs.Notes.{Note, note_of, notes_from_to}
-use Rattle.cds_follow.specs.Inbox.{has_seq}
+use Rattle.cds_follow.specs.Inbox.{has_place}
 use Rattle.cds_follow.specs.Follow.{is_drop}
 use Rattle.cds_replica.specs.Inboxed.{KeptInbox, IsInbox, IsWaiting, accepts, follows, run_end, behind, of_name, with_name, run_after, followers, with_next}
 use Rattle.cds_replica.specs.NewChanges.{KeptChanges, tells, tells_note, drops_first}
 use Rattle.cds_replica.proofs.Runs.{AreOf, run-outside, run-is, notes-more, notes-none, of_name-of}
-use Rattle.cds_replica.proofs.NewOnes.{note-seq, note-has, tells-append, tells-one}
+use Rattle.cds_replica.proofs.NewOnes.{note-place, note-has, tells-append, tells-one}
 
 -- ---- notes of the accepted name
 
@@ -31,25 +31,25 @@ of_name-same name (note ∷ notes) all =
 pub waiting-name : (name : ℕ) (kept : KeptInbox) → IsInbox kept → accepts name kept ≡ true → of_name name kept.waiting ≡ kept.waiting
 waiting-name name kept inbox e = of_name-same name kept.waiting (waiting-of name kept.next kept.accepted kept.waiting (accepts-name name kept.accepted e) inbox.waiting)
 
-and-parts : (a b : Bool) → a && b ≡ true → (a ≡ true) × (b ≡ true)
+pub and-parts : (a b : Bool) → a && b ≡ true → (a ≡ true) × (b ≡ true)
 and-parts true b e = (refl, e)
 and-parts false b e = absurd (true≢false (sym e))
 
--- the next note is one of the accepted name and has the next SEQ
-pub follows-parts : (note : Note) (kept : KeptInbox) → follows note kept ≡ true → (accepts note.name kept ≡ true) × (note.seq ≡ kept.next)
-follows-parts note kept e = let parts = and-parts (accepts note.name kept) (nat_eq note.seq kept.next) e in (parts.0, eqb-true note.seq kept.next parts.1)
+-- the next note is one of the accepted name and has the next place
+pub follows-parts : (note : Note) (kept : KeptInbox) → follows note kept ≡ true → (accepts note.name kept ≡ true) × (note.place ≡ kept.next)
+follows-parts note kept e = let parts = and-parts (accepts note.name kept) (nat_eq note.place kept.next) e in (parts.0, eqb-true note.place kept.next parts.1)
 
 -- ---- what the next note and those that follow it tell
 
-pub told-by : (note : Note) (kept : KeptInbox) (to : ℕ) (told : KeptChanges) → IsInbox kept → follows note kept ≡ true → to ≡ run_end (note.seq + 1) (of_name note.name kept.waiting)
-    → tells (notes_from_to (note.seq + 1) to (of_name note.name kept.waiting)) (tells_note note told) ≡ tells (note ∷ followers kept) told
+pub told-by : (note : Note) (kept : KeptInbox) (to : ℕ) (told : KeptChanges) → IsInbox kept → follows note kept ≡ true → to ≡ run_end (note.place + 1) (of_name note.name kept.waiting)
+    → tells (notes_from_to (note.place + 1) to (of_name note.name kept.waiting)) (tells_note note told) ≡ tells (note ∷ followers kept) told
 told-by note kept to told inbox e is =
     let parts = follows-parts note kept e in
     let same = waiting-name note.name kept inbox parts.0 in
     (λ i. tells (notes_from_to (parts.1 i + 1) ((is ∙ (λ j. run_end (parts.1 j + 1) (same j))) i) (same i)) (sym (tells-one note told) i))
     ∙ sym (tells-append (note ∷ []) (followers kept) told)
 
-pub run-after : (note : Note) (kept : KeptInbox) → IsInbox kept → follows note kept ≡ true → run_end (note.seq + 1) (of_name note.name kept.waiting) ≡ run_after kept
+pub run-after : (note : Note) (kept : KeptInbox) → IsInbox kept → follows note kept ≡ true → run_end (note.place + 1) (of_name note.name kept.waiting) ≡ run_after kept
 run-after note kept inbox e =
     let parts = follows-parts note kept e in
     let same = waiting-name note.name kept inbox parts.0 in
@@ -66,14 +66,14 @@ drop-first position notes = by (note_of 0 notes) refl
         let ends = run-is 0 0 notes (omega arith) (λ q low l. none q l) out in
         ap (is_drop position) (notes-none 0 (run_end 0 notes) notes (omega (arith, ends)))
       where
-        none : (q : ℕ) → q < 0 → has_seq notes q ≡ true
+        none : (q : ℕ) → q < 0 → has_place notes q ≡ true
         none q l = let no : ⊥ = omega (arith, l) in absurd no
     by (Some note) e =
         ap (is_drop position) (notes-more 0 (run_end 0 notes) notes (positive (run_end 0 notes) refl) ∙ ap (λ (o : Option Note). cons_option o (notes_from_to (0 + 1) (run_end 0 notes) notes)) e)
-        ∙ (λ i. eq-eqb note.seq 0 (note-seq 0 notes note e) i && nat_lt position note.number)
+        ∙ (λ i. eq-eqb note.place 0 (note-place 0 notes note e) i && nat_lt position note.number)
       where
         positive : (n : ℕ) → run_end 0 notes ≡ n → 0 < n
-        positive zero is = let clash : true ≡ false = note-has 0 notes (Some note) e ∙ ap (has_seq notes) (sym is) ∙ run-outside 0 notes in absurd (true≢false clash)
+        positive zero is = let clash : true ≡ false = note-has 0 notes (Some note) e ∙ ap (has_place notes) (sym is) ∙ run-outside 0 notes in absurd (true≢false clash)
         positive (suc n) is = omega arith
 
 -- ---- what holds of an inbox after a step
@@ -86,57 +86,57 @@ filter-length p (note ∷ notes) = by (p note) (filter-length p notes)
     by true l = omega (arith, l)
     by false l = omega (arith, l)
 
--- notes of a name behind a SEQ
+-- notes of a name behind a place
 pub behind-waiting : (name next : ℕ) (notes : List Note) → AreOf name notes
     → AllByRecursion (IsWaiting (Some name) next) (behind next notes)
 behind-waiting name next [] of = tt
-behind-waiting name next (note ∷ notes) of = by (nat_lt next note.seq) refl (behind-waiting name next notes of.1)
+behind-waiting name next (note ∷ notes) of = by (nat_lt next note.place) refl (behind-waiting name next notes of.1)
   where
-    by : (b : Bool) → nat_lt next note.seq ≡ b → AllByRecursion (IsWaiting (Some name) next) (behind next notes)
+    by : (b : Bool) → nat_lt next note.place ≡ b → AllByRecursion (IsWaiting (Some name) next) (behind next notes)
         → AllByRecursion (IsWaiting (Some name) next) (cond b (note ∷ behind next notes) (behind next notes))
-    by true e rest = ((ap (λ (n : ℕ). Some n) (sym of.0), ltb-true next note.seq e), rest)
+    by true e rest = ((ap (λ (n : ℕ). Some n) (sym of.0), ltb-true next note.place e), rest)
     by false e rest = rest
 
--- notes that wait are behind the next SEQ
+-- notes that wait are behind the next place
 pub waits-any : (accepted : Option ℕ) (next : ℕ) (note : Note) (notes : List Note) → AllByRecursion (IsWaiting accepted next) (note ∷ notes)
-    → list_any (λ (n : Note). nat_lt next n.seq) (note ∷ notes) ≡ true
-waits-any accepted next note notes all = λ i. lt-ltb next note.seq all.0.1 i || list_any (λ (n : Note). nat_lt next n.seq) notes
+    → list_any (λ (n : Note). nat_lt next n.place) (note ∷ notes) ≡ true
+waits-any accepted next note notes all = λ i. lt-ltb next note.place all.0.1 i || list_any (λ (n : Note). nat_lt next n.place) notes
 
 -- what holds of an inbox when a name was accepted
-pub inbox-named : (name : ℕ) (kept : KeptInbox) → IsInbox kept → run_end 0 (of_name name kept.early) ≤ 4294967296 → IsInbox (with_name name kept)
-inbox-named name kept inbox within =
-    let a = filter-length (λ (note : Note). nat_lt (run_end 0 (of_name name kept.early)) note.seq) (of_name name kept.early) in
+pub inbox-named : (name : ℕ) (kept : KeptInbox) → IsInbox kept → IsInbox (with_name name kept)
+inbox-named name kept inbox =
+    let a = filter-length (λ (note : Note). nat_lt (run_end 0 (of_name name kept.early)) note.place) (of_name name kept.early) in
     let b = filter-length (λ (note : Note). nat_eq note.name name) kept.early in
     let few = inbox.few in
     record {
+      wrap = inbox.wrap;
       few = omega (arith, a, b, few);
-      next = within;
       waiting = behind-waiting name (run_end 0 (of_name name kept.early)) (of_name name kept.early) (of_name-of name kept.early);
     }
 
 -- what holds of an inbox when the next note was taken
-pub inbox-next : (note : Note) (kept : KeptInbox) → IsInbox kept → follows note kept ≡ true → run_after kept ≤ 4294967296 → IsInbox (with_next kept)
-inbox-next note kept inbox e within =
+pub inbox-next : (note : Note) (kept : KeptInbox) → IsInbox kept → follows note kept ≡ true → IsInbox (with_next kept)
+inbox-next note kept inbox e =
     let parts = follows-parts note kept e in
-    let a = filter-length (λ (n : Note). nat_lt (run_after kept) n.seq) kept.waiting in
+    let a = filter-length (λ (n : Note). nat_lt (run_after kept) n.place) kept.waiting in
     let few = inbox.few in
     let accepted = accepts-name note.name kept.accepted parts.0 in
     record {
+      wrap = inbox.wrap;
       few = omega (arith, a, few);
-      next = within;
       waiting = subst (λ (o : Option ℕ). AllByRecursion (IsWaiting o (run_after kept)) (behind (run_after kept) kept.waiting)) (sym accepted)
           (behind-waiting note.name (run_after kept) kept.waiting (waiting-of note.name kept.next kept.accepted kept.waiting accepted inbox.waiting));
     }
 
--- notes of a name behind a SEQ, by one test
-pub behind-name : (name next : ℕ) (notes : List Note) → behind next (of_name name notes) ≡ filter (λ (note : Note). nat_eq note.name name && nat_lt next note.seq) notes
+-- notes of a name behind a place, by one test
+pub behind-name : (name next : ℕ) (notes : List Note) → behind next (of_name name notes) ≡ filter (λ (note : Note). nat_eq note.name name && nat_lt next note.place) notes
 behind-name name next [] = refl
 behind-name name next (note ∷ notes) = by (nat_eq note.name name) (behind-name name next notes)
   where
-    by : (b : Bool) → behind next (of_name name notes) ≡ filter (λ (n : Note). nat_eq n.name name && nat_lt next n.seq) notes
+    by : (b : Bool) → behind next (of_name name notes) ≡ filter (λ (n : Note). nat_eq n.name name && nat_lt next n.place) notes
         → behind next (cond b (note ∷ of_name name notes) (of_name name notes))
-        ≡ cond (b && nat_lt next note.seq) (note ∷ filter (λ (n : Note). nat_eq n.name name && nat_lt next n.seq) notes) (filter (λ (n : Note). nat_eq n.name name && nat_lt next n.seq) notes)
-    by true rest = (λ i. cond (nat_lt next note.seq) (note ∷ rest i) (rest i))
+        ≡ cond (b && nat_lt next note.place) (note ∷ filter (λ (n : Note). nat_eq n.name name && nat_lt next n.place) notes) (filter (λ (n : Note). nat_eq n.name name && nat_lt next n.place) notes)
+    by true rest = (λ i. cond (nat_lt next note.place) (note ∷ rest i) (rest i))
     by false rest = rest
 
 -- ---- what is kept after a step, by its parts
@@ -145,12 +145,12 @@ pub named-next : (name next : ℕ) (kept : KeptInbox) (early : List Note) → ne
 named-next name next kept early is same = is ∙ ap (λ (l : List Note). run_end 0 (of_name name l)) same
 
 pub named-waiting : (name next : ℕ) (kept : KeptInbox) (early waiting : List Note) → early ≡ kept.early → next ≡ run_end 0 (of_name name kept.early)
-    → waiting ≡ filter (λ (note : Note). nat_eq note.name name && nat_lt next note.seq) early → waiting ≡ (with_name name kept).waiting
+    → waiting ≡ filter (λ (note : Note). nat_eq note.name name && nat_lt next note.place) early → waiting ≡ (with_name name kept).waiting
 named-waiting name next kept early waiting same ends is =
     is ∙ sym (behind-name name next early) ∙ (λ i. behind (ends i) (of_name name (same i)))
 
 pub next-waiting : (note : Note) (name next : ℕ) (kept : KeptInbox) (before waiting : List Note) → IsInbox kept → follows note kept ≡ true → name ≡ note.name
-    → before ≡ kept.waiting → next ≡ run_after kept → waiting ≡ filter (λ (n : Note). nat_eq n.name name && nat_lt next n.seq) before → waiting ≡ (with_next kept).waiting
+    → before ≡ kept.waiting → next ≡ run_after kept → waiting ≡ filter (λ (n : Note). nat_eq n.name name && nat_lt next n.place) before → waiting ≡ (with_next kept).waiting
 next-waiting note name next kept before waiting inbox e of same ends is =
     is ∙ sym (behind-name name next before) ∙ (λ i. behind (ends i) (of_name (of i) (same i)))
     ∙ ap (behind (run_after kept)) (waiting-name note.name kept inbox (follows-parts note kept e).0)

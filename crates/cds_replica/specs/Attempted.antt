@@ -21,7 +21,7 @@ use Rattle.cds_load.specs.Outcome.{Outcome, CannotBeRead, Jumps, Tears}
 
 -- while no copy stands the next ask is that of the attempt
 abbrev pub AsksByAttempt : ReplicaState → Option Ask → Type 0
-AsksByAttempt kept ask = (turns : List ReplicaTurn) → StandsFor kept turns → ShowsRows (load_turns turns) → has_copy (known_by turns).held ≡ false →
+AsksByAttempt kept ask = (wrap : ℕ) (turns : List ReplicaTurn) → StandsFor kept wrap turns → ShowsRows (load_turns turns) → has_copy (known_by turns).held ≡ false →
     ask ≡ option_and_then ask_in (attempt_of (load_turns turns))
 
 -- how a reply ends a load with a refusal: the attempt with it is complete, at a number. The changes above this number that notes
@@ -42,15 +42,15 @@ IsVerdict turns shown verdict (Err Mem) = Unit {0}
 
 -- while no copy stands a reply is judged by the attempt
 abbrev pub TakesByAttempt : ReplicaState → Shown → Result Read AnswerError → Type 0
-TakesByAttempt kept shown result = (turns : List ReplicaTurn) → StandsFor kept turns → ShowsRows (LoadShows shown ∷ load_turns turns) →
+TakesByAttempt kept shown result = (wrap : ℕ) (turns : List ReplicaTurn) → StandsFor kept wrap turns → ShowsRows (LoadShows shown ∷ load_turns turns) →
     has_copy (known_by turns).held ≡ false → IsVerdict turns shown (verdict_by (attempt_of (load_turns turns)) shown) result
 
--- if no SEQ is missing, a copy stands if and only if the attempt is complete
+-- if no place is missing, a copy stands if and only if the attempt is complete
 abbrev pub SaysByAttempt : ReplicaState → Says → Type 0
-SaysByAttempt kept answer = (turns : List ReplicaTurn) → StandsFor kept turns → ShowsRows (load_turns turns) → missing turns ≡ None →
+SaysByAttempt kept answer = (wrap : ℕ) (turns : List ReplicaTurn) → StandsFor kept wrap turns → ShowsRows (load_turns turns) → missing turns ≡ None →
     (answer ≡ BehindLoad → says_by (attempt_of (load_turns turns)) ≡ LoadRuns) × (says_by (attempt_of (load_turns turns)) ≡ LoadRuns → answer ≡ BehindLoad)
 
 -- a copy has the rows that the attempt showed, in ascending order of ids, with all that befell it since
 abbrev pub CopiesByAttempt : ReplicaState → List KnownRow → Type 0
-CopiesByAttempt kept rows = (turns : List ReplicaTurn) → StandsFor kept turns → ShowsRows (load_turns turns) → has_copy (known_by turns).held ≡ true →
+CopiesByAttempt kept rows = (wrap : ℕ) (turns : List ReplicaTurn) → StandsFor kept wrap turns → ShowsRows (load_turns turns) → has_copy (known_by turns).held ≡ true →
     rows ≡ rows_after (copied_by (attempt_of (load_turns turns))) (known_by turns).happenings

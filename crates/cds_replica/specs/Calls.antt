@@ -1,10 +1,13 @@
 -- What a replica's calls say of every list of turns that it stood for, honest or not.
-use Rattle.std.specs.Prelude.{◌≡◌, ◌≤◌, List, ◌∷◌, length, Result, Ok, Err}
+use Rattle.std.specs.Prelude.{◌≡◌, ◌≤◌, ℕ, List, ◌∷◌, length, Option, Some, None, Result, Ok, Err}
 use Rattle.cds_load.specs.declared.exchange.Read.{Read}
 use Rattle.cds_follow.specs.Inbox.{ReplicaTurn, held_notes, held_limit, Arrival, IsUnknown, IsRepeat, IsTooMany, IsEarly, IsHeld, IsNext}
 use Rattle.cds_commands.specs.Notes.{Note}
+use Rattle.cds_commands.specs.Places.{seq_at}
+use Rattle.cds_commands.specs.Wire.{WireNote}
 use Rattle.cds_follow.specs.Follow.{Known, is_drop, and_turn}
-use Rattle.cds_replica.specs.Inboxed.{KeptInbox, with_early, with_waiting, followers, with_next}
+use Rattle.cds_follow.specs.Wire.{placed, and_note}
+use Rattle.cds_replica.specs.Inboxed.{KeptInbox, arrival_in, with_early, with_waiting, followers, with_next}
 use Rattle.cds_replica.specs.Steps.{with_new_changes}
 use Rattle.cds_replica.specs.State.{KeptKnown, kept_position, ReplicaState, StandsFor}
 use Rattle.cds_replica.specs.NewChanges.{tells, nothing_told}
@@ -20,15 +23,21 @@ use Rattle.cds_load.specs.Outcome.{Outcome, Goes, CannotBeRead, Jumps, Tears}
 
 -- what stood for some turns stands for them and this one
 abbrev pub GoesOn : ReplicaState → ReplicaTurn → ReplicaState → Type 0
-GoesOn old turn new = (turns : List ReplicaTurn) → StandsFor old turns → StandsFor new (turn ∷ turns)
+GoesOn old turn new = (wrap : ℕ) (turns : List ReplicaTurn) → StandsFor old wrap turns → StandsFor new wrap (turn ∷ turns)
 
 -- what stood for some turns stands for them and this one, if it is not refused
 abbrev pub TakesTurn : ReplicaState → ReplicaTurn → ReplicaState → Type 0
-TakesTurn old turn new = (turns : List ReplicaTurn) → StandsFor old turns → StandsFor new (and_turn turn turns)
+TakesTurn old turn new = (wrap : ℕ) (turns : List ReplicaTurn) → StandsFor old wrap turns → StandsFor new wrap (and_turn turn turns)
+
+-- what stood for some turns stands for them and a note that came, at the place near those that were taken. If it has none there, or
+-- is refused, it is no turn
+abbrev pub TakesNote : ReplicaState → WireNote → ReplicaState → Type 0
+TakesNote old note new =
+    (wrap : ℕ) (turns : List ReplicaTurn) → StandsFor old wrap turns → StandsFor new wrap (and_note (placed wrap note turns) turns)
 
 -- at most 64 notes are held, early ones included
 abbrev pub HoldsFew : ReplicaState → Type 0
-HoldsFew kept = (turns : List ReplicaTurn) → StandsFor kept turns → length (held_notes turns) ≤ held_limit
+HoldsFew kept = (wrap : ℕ) (turns : List ReplicaTurn) → StandsFor kept wrap turns → length (held_notes turns) ≤ held_limit
 
 -- something was taken
 abbrev pub IsTaken : Outcome Known → Type 0
@@ -101,13 +110,19 @@ IsDelivered arrives note old new (Ok Took) =
     (arrives ≡ IsNext) × (of_notes (note ∷ followers old.inbox) old.known ≡ Goes new.known) × (new.inbox ≡ with_next old.inbox)
 IsDelivered arrives note old new (Ok Repeat) = (arrives ≡ IsRepeat) × (new ≡ old)
 IsDelivered arrives note old new (Ok Early) = (arrives ≡ IsEarly) × (new ≡ record old { inbox = with_early note old.inbox })
-IsDelivered arrives note old new (Ok (Held missing)) = (arrives ≡ IsHeld missing) × (new ≡ record old { inbox = with_waiting note old.inbox })
+IsDelivered arrives note old new (Ok (Held missing)) =
+    (arrives ≡ IsHeld old.inbox.next) × (missing ≡ seq_at old.inbox.wrap old.inbox.next) × (new ≡ record old { inbox = with_waiting note old.inbox })
 IsDelivered arrives note old new (Err Unknown) = (arrives ≡ IsUnknown) × (new ≡ old)
 IsDelivered arrives note old new (Err (Full held)) = (arrives ≡ IsTooMany held) × (new ≡ old)
 IsDelivered arrives note old new (Err (Jump expected first)) =
     (arrives ≡ IsNext) × (of_notes (note ∷ followers old.inbox) old.known ≡ Jumps expected first) × (new ≡ old)
 IsDelivered arrives note old new (Err (Torn id)) = (arrives ≡ IsNext) × (of_notes (note ∷ followers old.inbox) old.known ≡ Tears id) × (new ≡ old)
 IsDelivered arrives note old new (Err Mem) = new ≡ old
+
+-- an answer to a note that came: if it has no place near those that were taken, it is unknown
+abbrev pub IsArrived : Option Note → ReplicaState → ReplicaState → Result Taken NotifyError → Type 0
+IsArrived None old new result = (result ≡ Err Unknown) × (new ≡ old)
+IsArrived (Some note) old new result = IsDelivered (arrival_in note old.inbox) note old new result
 
 -- the answer to a note whose changes cannot be counted
 abbrev pub refusal_of : CountError → NotifyError

@@ -1,14 +1,18 @@
--- What a replica keeps of its notes: not the notes that it took, but how far they go; and the notes that it holds (this
--- project's profile, over UPnP Device Architecture 2.0 on event keys).
+-- What a replica keeps of its notes: not the notes that it took, but how far they go; and the notes that it holds, at their
+-- places (this project's profile, over UPnP Device Architecture 2.0 on event keys).
 use Rattle.std.specs.Prelude.{◌≡◌, ◌<◌, ◌≤◌, ◌+◌, ◌&&◌, ◌||◌, ℕ, Bool, true, false, cond, not, nat_eq, nat_lt, nat_le, List, [], ◌∷◌, filter, length, Option, Some}
 use Rattle.std.specs.List.{list_any, AllByRecursion}
-use Rattle.std.specs.Option.{option_eq}
+use Rattle.std.specs.Option.{option_eq, option_map}
 use Rattle.cds_commands.specs.Notes.{Note, notes_from_to}
-use Rattle.cds_follow.specs.Inbox.{ReplicaTurn, is_out, accepted, early_notes, has_seq, least_outside, next_seq, is_same_note, different, waiting_notes, held_limit, Arrival, IsUnknown, IsRepeat, IsTooMany, IsEarly, IsHeld, IsNext}
+use Rattle.cds_commands.specs.Places.{seq_at, place_of}
+use Rattle.cds_commands.specs.Wire.{WireNote, note_at}
+use Rattle.cds_gena.specs.Subscribed.{least_wrap}
+use Rattle.cds_follow.specs.Inbox.{ReplicaTurn, is_out, accepted, early_notes, has_place, least_outside, next_place, missing_of, is_same_note, different, waiting_notes, held_limit, Arrival, IsUnknown, IsRepeat, IsTooMany, IsEarly, IsHeld, IsNext}
 
--- the name that was accepted last; whether a subscribe request is out; the SEQ after those that were taken; the notes that
--- were received and not taken; and the early ones: each held note once, the newest first
+-- the SEQ after which comes SEQ 1; the name that was accepted last; whether a subscribe request is out; the place after those that
+-- were taken; the notes that were received and not taken; and the early ones: each held note once, the newest first
 pub record KeptInbox : Type 0 where
+  pub wrap : ℕ
   pub accepted : Option ℕ
   pub out : Bool
   pub next : ℕ
@@ -16,26 +20,39 @@ pub record KeptInbox : Type 0 where
   pub early : List Note
 
 -- what is kept after a replica's turns
-abbrev pub inbox_of : List ReplicaTurn → KeptInbox
-inbox_of turns = record {
+abbrev pub inbox_of : ℕ → List ReplicaTurn → KeptInbox
+inbox_of wrap turns = record {
+  wrap = wrap;
   accepted = accepted turns;
   out = is_out turns;
-  next = next_seq turns;
+  next = next_place turns;
   waiting = waiting_notes turns;
   early = different (early_notes turns);
 }
 
--- whether a name is the accepted one; whether a note is a repeat, and whether it is the next one; and how many are held
+-- whether a name is the accepted one
 abbrev pub accepts : ℕ → KeptInbox → Bool
 accepts name kept = option_eq nat_eq kept.accepted (Some name)
 
+-- the place next to which those of a name are; and a note that came, at the place with its SEQ that is near, if there is one
+abbrev pub near_in : ℕ → KeptInbox → ℕ
+near_in name kept = cond (accepts name kept) kept.next 0
+
+abbrev pub placed_in : WireNote → KeptInbox → Option Note
+placed_in note kept = option_map (note_at note) (place_of kept.wrap (near_in note.name kept) note.seq)
+
+-- the SEQ of the place that is missing
+abbrev pub missing_seq : KeptInbox → Option ℕ
+missing_seq kept = option_map (seq_at kept.wrap) (missing_of kept.waiting kept.next)
+
+-- whether a note is a repeat, and whether it is the next one; and how many are held
 abbrev pub repeats : Note → KeptInbox → Bool
 repeats note kept =
-    cond (accepts note.name kept) (nat_lt note.seq kept.next || has_seq kept.waiting note.seq)
+    cond (accepts note.name kept) (nat_lt note.place kept.next || has_place kept.waiting note.place)
     (kept.out && list_any (is_same_note note) kept.early)
 
 abbrev pub follows : Note → KeptInbox → Bool
-follows note kept = accepts note.name kept && nat_eq note.seq kept.next
+follows note kept = accepts note.name kept && nat_eq note.place kept.next
 
 abbrev pub held_count : KeptInbox → ℕ
 held_count kept = length kept.waiting + length kept.early
@@ -47,14 +64,14 @@ arrival_in note kept =
     (cond (repeats note kept) IsRepeat
     (cond (not (follows note kept) && nat_le held_limit (held_count kept)) (IsTooMany (held_count kept))
     (cond (not (accepts note.name kept)) IsEarly
-    (cond (nat_lt kept.next note.seq) (IsHeld kept.next) IsNext))))
+    (cond (nat_lt kept.next note.place) (IsHeld kept.next) IsNext))))
 
--- the SEQ after those that notes have from one on without a hole; and the notes that are after such a run
+-- the place after those that notes have from one on without a hole; and the notes that are after such a run
 abbrev pub run_end : ℕ → List Note → ℕ
 run_end from notes = least_outside (length notes) from notes
 
 abbrev pub behind : ℕ → List Note → List Note
-behind next notes = filter (λ (note : Note). nat_lt next note.seq) notes
+behind next notes = filter (λ (note : Note). nat_lt next note.place) notes
 
 -- the notes of a name
 abbrev pub of_name : ℕ → List Note → List Note
@@ -70,6 +87,7 @@ with_refusal kept = record kept { out = false; early = [] }
 -- what is kept when a name was accepted, and the early notes that are taken then
 abbrev pub with_name : ℕ → KeptInbox → KeptInbox
 with_name name kept = record {
+  wrap = kept.wrap;
   accepted = Some name;
   out = false;
   next = run_end 0 (of_name name kept.early);
@@ -80,14 +98,14 @@ with_name name kept = record {
 abbrev pub taken_early : ℕ → KeptInbox → List Note
 taken_early name kept = notes_from_to 0 (run_end 0 (of_name name kept.early)) (of_name name kept.early)
 
--- what is kept when a note is held, early or for a SEQ before it
+-- what is kept when a note is held, early or for a place before it
 abbrev pub with_early : Note → KeptInbox → KeptInbox
 with_early note kept = record kept { early = note ∷ kept.early }
 
 abbrev pub with_waiting : Note → KeptInbox → KeptInbox
 with_waiting note kept = record kept { waiting = note ∷ kept.waiting }
 
--- the SEQ after the next note and those that follow it, these, and what is kept when they were taken
+-- the place after the next note and those that follow it, these, and what is kept when they were taken
 abbrev pub run_after : KeptInbox → ℕ
 run_after kept = run_end (kept.next + 1) kept.waiting
 
@@ -103,7 +121,7 @@ with_note IsUnknown note kept = kept
 with_note IsRepeat note kept = kept
 with_note (IsTooMany held) note kept = kept
 with_note IsEarly note kept = with_early note kept
-with_note (IsHeld seq) note kept = with_waiting note kept
+with_note (IsHeld place) note kept = with_waiting note kept
 with_note IsNext note kept = with_next kept
 
 abbrev pub taken_in : Arrival → Note → KeptInbox → List Note
@@ -111,15 +129,15 @@ taken_in IsUnknown note kept = []
 taken_in IsRepeat note kept = []
 taken_in (IsTooMany held) note kept = []
 taken_in IsEarly note kept = []
-taken_in (IsHeld seq) note kept = []
+taken_in (IsHeld place) note kept = []
 taken_in IsNext note kept = note ∷ followers kept
 
 -- what holds of each inbox: at most as many notes are held as may be. Those that wait are of the accepted name and after the next
--- SEQ, which is at most the number of all SEQs
+-- place
 abbrev pub IsWaiting : Option ℕ → ℕ → Note → Type 0
-IsWaiting accepted next note = (accepted ≡ Some note.name) × (next < note.seq)
+IsWaiting accepted next note = (accepted ≡ Some note.name) × (next < note.place)
 
 pub record IsInbox (kept : KeptInbox) : Type 0 where
+  pub wrap : least_wrap ≤ kept.wrap
   pub few : held_count kept ≤ held_limit
-  pub next : kept.next ≤ 4294967296
   pub waiting : AllByRecursion (IsWaiting kept.accepted kept.next) kept.waiting

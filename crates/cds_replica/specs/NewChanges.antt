@@ -29,7 +29,7 @@ tells_note note told = record {
   changes = told.changes ++ changes_above told.position note.events;
 }
 
--- whether the note of SEQ 0, if one is taken, drops the copy
+-- whether the note of place 0, if one is taken, drops the copy
 abbrev pub drops_first : ℕ → Option Note → Bool
 drops_first position None = false
 drops_first position (Some note) = nat_lt position note.number

@@ -38,12 +38,12 @@ with_reading known (Some shown) = with_reply known known.held shown
 
 -- what stood for some turns stands for them and the reply, if it can be read and what it shows is not refused
 abbrev pub TakesReply : ReplicaState → List ℕ → ReplicaState → Type 0
-TakesReply old bytes new = (turns : List ReplicaTurn) (read : Option Shown) → StandsFor old turns →
-    IsNextReading (next_ask (known_by turns)) bytes read → StandsFor new (and_shown read turns)
+TakesReply old bytes new = (wrap : ℕ) (turns : List ReplicaTurn) (read : Option Shown) → StandsFor old wrap turns →
+    IsNextReading (next_ask (known_by turns)) bytes read → StandsFor new wrap (and_shown read turns)
 
 -- an answer is exactly what becomes of what the bytes are read as
 abbrev pub AnswersReply : ReplicaState → List ℕ → Result Read AnswerError → Type 0
-AnswersReply old bytes result = (turns : List ReplicaTurn) (read : Option Shown) → StandsFor old turns →
+AnswersReply old bytes result = (wrap : ℕ) (turns : List ReplicaTurn) (read : Option Shown) → StandsFor old wrap turns →
     IsNextReading (next_ask (known_by turns)) bytes read → IsAnswer (with_reading (known_by turns) read) result
 
 -- unless memory ran out the bytes are read, as something or as nothing
@@ -58,7 +58,7 @@ WhereShown ask bytes P = (shown : Shown) → IsNextReading ask bytes (Some shown
 pub record TakesShown (old : ReplicaState) (shown : Shown) (new : ReplicaState) (result : Result Read AnswerError) : Type 0 where
   pub unchanged : OnErr result (new ≡ old)
   pub stands : UnlessMem result (TakesTurn old (Shows shown) new)
-  pub answer : (turns : List ReplicaTurn) → StandsFor old turns → IsAnswer (with_reply (known_by turns) (known_by turns).held shown) result
+  pub answer : (wrap : ℕ) (turns : List ReplicaTurn) → StandsFor old wrap turns → IsAnswer (with_reply (known_by turns) (known_by turns).held shown) result
   pub read : IfOk result (λ (read : Read). read ≡ read_of shown)
   pub given : TakesGiven old shown new result
   pub attempt : TakesByAttempt old shown result
@@ -78,8 +78,8 @@ IsReplyGiven moment turns bytes = (ask : Ask) → next_ask (known_by turns) ≡ 
 
 -- what stood for the entries of a server stands for them and one more read
 abbrev pub AnswersGiven : ReplicaState → List ℕ → ReplicaState → Result Read AnswerError → Type 0
-AnswersGiven old bytes new result = (token : List ℕ) (names : ℕ → ℕ) (first : ℕ) (commands : List Command) (entries : List Entry) (k : ℕ) →
+AnswersGiven old bytes new result = (token : List ℕ) (names : ℕ → ℕ) (wrap first : ℕ) (commands : List Command) (entries : List Entry) (k : ℕ) →
     TellApart names (grants_of commands) → AreAccepted first commands →
-    IsGiven token first commands (Asks k ∷ entries) → StandsFor old (named names (given_by token first commands entries)) →
+    IsGiven token first commands (Asks k ∷ entries) → StandsFor old wrap (named names (given_by token first commands entries)) →
     IsReplyGiven (moment_after token first (oldest k commands)) (given_by token first commands entries) bytes →
-    IsReadThen result (StandsFor new (named names (given_by token first commands (Asks k ∷ entries))))
+    IsReadThen result (StandsFor new wrap (named names (given_by token first commands (Asks k ∷ entries))))

@@ -37,9 +37,9 @@ WasInReply row (bytes ∷ replies) = HasRow row bytes ⊎ WasInReply row replies
 
 -- what stood for turns that were shown in replies stands for turns that were shown in them and this one
 abbrev pub GoesOnIn : ReplicaState → List ℕ → ReplicaState → Type 0
-GoesOnIn old bytes new = (replies : List (List ℕ)) (turns : List ReplicaTurn) → StandsFor old turns → AreShownIn replies turns →
-    (now : List ReplicaTurn) × StandsFor new now × AreShownIn (bytes ∷ replies) now
+GoesOnIn old bytes new = (replies : List (List ℕ)) (wrap : ℕ) (turns : List ReplicaTurn) → StandsFor old wrap turns → AreShownIn replies turns →
+    (now : List ReplicaTurn) × StandsFor new wrap now × AreShownIn (bytes ∷ replies) now
 
 -- a row of a copy was in one of the replies that were shown
 abbrev pub WasReplied : ReplicaState → ObjectRow → Type 0
-WasReplied kept row = (replies : List (List ℕ)) (turns : List ReplicaTurn) → StandsFor kept turns → AreShownIn replies turns → WasInReply row replies
+WasReplied kept row = (replies : List (List ℕ)) (wrap : ℕ) (turns : List ReplicaTurn) → StandsFor kept wrap turns → AreShownIn replies turns → WasInReply row replies

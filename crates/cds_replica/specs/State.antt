@@ -43,10 +43,10 @@ pub record ReplicaState : Type 0 where
   pub known : KeptKnown
   pub inbox : KeptInbox
 
--- what is kept after a replica's turns
-abbrev pub kept_of : List ReplicaTurn → ReplicaState
-kept_of turns = record { known = kept_known (known_by turns); inbox = inbox_of turns }
+-- what is kept after a replica's turns, if SEQ 1 comes after some SEQ
+abbrev pub kept_of : ℕ → List ReplicaTurn → ReplicaState
+kept_of wrap turns = record { known = kept_known (known_by turns); inbox = inbox_of wrap turns }
 
--- a kept value stands for turns
-abbrev pub StandsFor : ReplicaState → List ReplicaTurn → Type 0
-StandsFor kept turns = kept ≡ kept_of turns
+-- a kept value stands for turns, with the SEQ after which comes SEQ 1
+abbrev pub StandsFor : ReplicaState → ℕ → List ReplicaTurn → Type 0
+StandsFor kept wrap turns = kept ≡ kept_of wrap turns

@@ -12,7 +12,7 @@ use Rattle.cds_load.specs.declared.exchange.Read.{Read}
 use Rattle.cds_load.specs.declared.exchange.Shown.{Shown}
 use Rattle.cds_load.specs.declared.exchange.Shown.TheVariants.{Text, Number, Page, Fault}
 use Rattle.cds_follow.specs.Copy.{KnownRow, shown_row}
-use Rattle.cds_follow.specs.Inbox.{missing_of}
+use Rattle.cds_replica.specs.Inboxed.{missing_seq}
 use Rattle.cds_follow.specs.Follow.{Known}
 use Rattle.cds_follow.specs.declared.says.Says.{Says}
 use Rattle.cds_follow.specs.declared.says.Says.TheVariants.{Gap, BehindLoad, BehindRead, BehindVersion, Stands}
@@ -118,7 +118,7 @@ tells_or_gap (Some seq) otherwise = Gap seq
 tells_or_gap None otherwise = otherwise
 
 abbrev pub kept_says : ReplicaState → Says
-kept_says kept = tells_or_gap (missing_of kept.inbox.waiting kept.inbox.next) (phase_tells kept.known kept.known.phase)
+kept_says kept = tells_or_gap (missing_seq kept.inbox) (phase_tells kept.known kept.known.phase)
 
 -- the rows of the copy whose objects are known
 abbrev pub phase_rows : KeptPhase → List ObjectRow

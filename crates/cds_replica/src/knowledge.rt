@@ -140,7 +140,7 @@ impl Knowledge {
         self.phase.go_to(phase);
     }
 
-    /// Returns what is said if no SEQ is missing.
+    /// Returns what is said if no place is missing.
     pub fn says(&self) -> Says
         ensures { result ≡ phase_tells self.now self.now.phase }
     {

@@ -20,6 +20,8 @@ mod notify_error;
 mod order;
 mod outline;
 mod phase;
+mod placed;
+mod places;
 mod replica;
 mod stage;
 mod taking;

@@ -1,15 +1,15 @@
-//! What notes that are taken one after the other tell, and the runs of SEQs in which they are taken.
+//! What notes that are taken one after the other tell, and the runs of places in which they are taken.
 
-ghost use Rattle.std.specs.Prelude.{◌≡◌, ◌+◌, ◌^◌, ◌≤◌, ◌<◌, OnOk, IfSome, is_some, option_copied};
-ghost use Rattle.cds_follow.specs.Inbox.{has_seq};
+ghost use Rattle.std.specs.Prelude.{◌≡◌, OnOk, IfSome, is_some, option_copied};
+ghost use Rattle.cds_follow.specs.Inbox.{has_place};
 ghost use Rattle.cds_commands.specs.Notes.{note_of, notes_from_to};
 ghost use Rattle.cds_replica.specs.Inboxed.{run_end, of_name};
 ghost use Rattle.cds_replica.specs.NewChanges.{nothing_told, tells, tells_note};
 
 use crate::changes::add_changes_above;
+use crate::placed::Placed;
 use cds_base::Mem;
 use cds_gena::Sid;
-use cds_notify::Note;
 use cds_object::Event;
 use std::alloc::Global;
 use std::marker::Model;
@@ -64,21 +64,21 @@ impl NewChanges {
     }
 
     /// Adds what one more note tells.
-    pub fn add(&mut self, note: &Note) -> Result<(), Mem>
+    pub fn add(&mut self, note: &Placed) -> Result<(), Mem>
         ensures { OnOk result (self.new ≡ tells_note note.now self.old) }
     {
-        add_changes_above(&mut self.changes, self.position, note.events.as_slice())?;
-        self.position = self.position.max(note.number);
-        self.last_note = self.last_note.max(note.number);
+        add_changes_above(&mut self.changes, self.position, note.events())?;
+        self.position = self.position.max(note.number());
+        self.last_note = self.last_note.max(note.number());
         Ok(())
     }
 
-    /// Adds what the notes of a name tell whose SEQs go from one up to another.
-    pub fn add_run(&mut self, notes: &[Note], sid: Sid, from: u64, to: u64) -> Result<(), Mem>
+    /// Adds what the notes of a name tell whose places go from one up to another.
+    pub fn add_run(&mut self, notes: &[Placed], sid: Sid, from: u64, to: u64) -> Result<(), Mem>
         ensures { OnOk result (self.new ≡ tells (notes_from_to from to (of_name sid.0 notes.now)) self.old) }
     {
-        for seq in from..to {
-            if let Some(note) = note_of(notes, sid, seq) {
+        for place in from..to {
+            if let Some(note) = note_of(notes, sid, place) {
                 self.add(note)?;
             }
         }
@@ -86,33 +86,31 @@ impl NewChanges {
     }
 }
 
-/// Returns the note of a name and a SEQ, the one that came first. Of these notes the newest is the first.
-pub fn note_of(notes: &[Note], sid: Sid, seq: u64) -> Option<&Note>
-    ensures note { option_copied result ≡ note_of seq (of_name sid.0 notes.now) }
-    ensures seq { IfSome result (λ note. note.now.seq ≡ seq) }
-    ensures found { is_some result ≡ has_seq (of_name sid.0 notes.now) seq }
+/// Returns the note of a name and a place, the one that came first. Of these notes the newest is the first.
+pub fn note_of(notes: &[Placed], sid: Sid, place: u64) -> Option<&Placed>
+    ensures note { option_copied result ≡ note_of place (of_name sid.0 notes.now) }
+    ensures place { IfSome result (λ note. note.now.place ≡ place) }
+    ensures found { is_some result ≡ has_place (of_name sid.0 notes.now) place }
 {
     let mut found = None;
     for note in notes {
-        if note.is_at(sid, seq) {
+        if note.is_at(sid, place) {
             found = Some(note);
         }
     }
     found
 }
 
-/// Returns the SEQ after those that the notes of a name have from one on without a hole.
-pub fn run_end(notes: &[Note], sid: Sid, from: u64) -> u64
-    requires { from ≤ 2 ^ 32 }
+/// Returns the place after those that the notes of a name have from one on without a hole.
+pub fn run_end(notes: &[Placed], sid: Sid, from: u64) -> u64
     ensures end { result ≡ run_end from (of_name sid.0 notes.now) }
-    ensures within { result ≤ 2 ^ 32 }
 {
-    let mut seq = from;
+    let mut place = from;
     for _held in 0..notes.len() {
-        match note_of(notes, sid, seq) {
-            None => return seq,
-            Some(note) => seq = note.next_seq(),
+        match note_of(notes, sid, place) {
+            None => return place,
+            Some(note) => place = note.next_place(),
         }
     }
-    seq
+    place
 }

@@ -9,6 +9,6 @@ pub enum Taken {
     Repeat,
     /// It is held for the subscribe request that is out.
     Early,
-    /// It is held until the note of this SEQ comes.
+    /// It is held until the note of this SEQ comes, which is that of the next place.
     Held { missing: u32 },
 }

@@ -10,8 +10,8 @@ use thiserror::Error;
 /// Why a note was refused, or a name with the notes that came early for it. The replica is then as before.
 #[derive(Clone, Copy, Debug, PartialEq, Eq, Error)]
 pub enum NotifyError {
-    /// The name is not the accepted one, and no subscribe request is out.
-    #[error("the name of the note is not known")]
+    /// The name is not the accepted one, and no subscribe request is out. Or no place near those that were taken has this SEQ.
+    #[error("the name or the SEQ of the note is not known")]
     Unknown,
     /// The note cannot be taken now, and this many notes are held.
     #[error("{held} notes are held, and no more are")]

@@ -1,21 +1,23 @@
 //! The replica of a server: its calls, and what they answer.
 
-ghost use Rattle.std.specs.Prelude.{◌≡◌, [], List, ◌∷◌, ◌++◌, None, map, IsOk, IfOk, IfSome, IsSome, IsTrue, OnOk, OnErr, option_copied, slice_get, codes};
+ghost use Rattle.std.specs.Prelude.{◌≡◌, ◌≤◌, ℕ, [], List, ◌∷◌, ◌++◌, None, map, IsOk, IfOk, IfSome, IsSome, IsTrue, OnOk, OnErr, option_copied, slice_get, codes};
 ghost use Rattle.std.specs.List.{filter_map};
 ghost use Rattle.std.specs.Option.{option_map};
 ghost use Rattle.cds_load.specs.Outcome.{CannotBeRead};
 ghost use Rattle.cds_follow.specs.Copy.{shown_row};
-ghost use Rattle.cds_follow.specs.Inbox.{ReplicaTurn, Begins, Shows, Requests, Accepts, Refuses, Delivers, is_out, accepted, arrival, taken_by};
-ghost use Rattle.cds_follow.specs.Follow.{known_by, next_ask, says, copied, with_notes, with_reply};
+ghost use Rattle.cds_follow.specs.Inbox.{ReplicaTurn, Begins, Shows, Requests, Accepts, Refuses, is_out, accepted, next_place, taken_by};
+ghost use Rattle.cds_follow.specs.Follow.{known_by, next_ask, copied, with_notes, with_reply};
 ghost use Rattle.cds_follow.specs.Seen.{WasShown};
+ghost use Rattle.cds_follow.specs.Wire.{placed, arrival_on_wire, heard, says_on_wire};
+ghost use Rattle.cds_gena.specs.Subscribed.{least_wrap};
 ghost use Rattle.cds_exchange.specs.Asking.{action_of};
 ghost use Rattle.cds_soap.specs.Written.{written_action};
 ghost use Rattle.cds_replica.specs.Answer.{read_of};
 ghost use Rattle.cds_replica.specs.Attempted.{AsksByAttempt, TakesByAttempt, SaysByAttempt, CopiesByAttempt};
 ghost use Rattle.cds_replica.specs.Replies.{IsNextReading, TakesRead, TakesReply, AnswersReply, IsRead, WhereShown, AnswersGiven};
 ghost use Rattle.cds_replica.specs.ShownIn.{GoesOnIn, WasReplied};
-ghost use Rattle.cds_replica.specs.Calls.{GoesOn, TakesTurn, HoldsFew, IsNotice, IsAcceptance, IsAnswer, UnlessNoMemory, UnlessMem, IsTaking, IsDelivered, of_notes, refusal_of};
-ghost use Rattle.cds_replica.specs.Inboxed.{arrival_in, follows, followers, taken_early, with_name, with_next};
+ghost use Rattle.cds_replica.specs.Calls.{GoesOn, TakesTurn, TakesNote, HoldsFew, IsNotice, IsAcceptance, IsAnswer, UnlessNoMemory, UnlessMem, IsTaking, IsDelivered, IsArrived, of_notes, refusal_of};
+ghost use Rattle.cds_replica.specs.Inboxed.{arrival_in, placed_in, follows, followers, taken_early, with_name, with_next};
 ghost use Rattle.cds_replica.specs.Honest.{TakesGiven, HearsGiven, AcceptsGiven, SaysGiven, CompletesGiven};
 ghost use Rattle.cds_replica.specs.Steps.{phase_ask, phase_all, phase_rows, kept_says};
 ghost use Rattle.cds_replica.specs.State.{StandsFor};
@@ -25,6 +27,7 @@ use crate::count_error::CountError;
 use crate::inbox::{Arrival, Inbox};
 use crate::knowledge::Knowledge;
 use crate::note::Taken;
+use crate::placed::Placed;
 use crate::{AnswerError, NotifyError};
 use cds_base::Mem;
 use cds_exchange::read_reply;
@@ -64,13 +67,22 @@ impl Debug for Replica {
 }
 
 impl Replica {
-    /// Returns a replica without a copy and without a subscription, which takes no memory.
+    /// Returns a replica without a copy and without a subscription. For it SEQ 1 comes after SEQ 4294967295, as UPnP Device
+    /// Architecture 2.0 has it. It takes no memory.
     pub fn new(alloc: Global) -> Replica
-        ensures { StandsFor result [] }
+        ensures { StandsFor result 4294967295 [] }
+    {
+        Replica::with_wrap(alloc, u32::MAX)
+    }
+
+    /// Returns such a replica for which SEQ 1 comes after another SEQ, which is at least 256. It is for tests. It takes no memory.
+    pub fn with_wrap(alloc: Global, wrap: u32) -> Replica
+        requires { least_wrap ≤ wrap }
+        ensures { StandsFor result wrap [] }
     {
         Replica {
             known: Knowledge::new(alloc),
-            inbox: Inbox::new(alloc),
+            inbox: Inbox::new(alloc, wrap),
         }
     }
 
@@ -115,7 +127,7 @@ impl Replica {
     /// Returns whether a subscribe request is out.
     pub fn is_subscribing(&self) -> bool
         ensures kept { result ≡ self.now.inbox.out }
-        ensures request { (turns : List ReplicaTurn) → StandsFor self.now turns → result ≡ is_out turns }
+        ensures request { (wrap : ℕ) (turns : List ReplicaTurn) → StandsFor self.now wrap turns → result ≡ is_out turns }
     {
         self.inbox.is_out()
     }
@@ -127,7 +139,7 @@ impl Replica {
         requires { IsTrue self.old.inbox.out }
         ensures unchanged { OnErr result (self.new ≡ self.old) }
         ensures stands { UnlessNoMemory result (TakesTurn self.old (Accepts sid.0) self.new) }
-        ensures answer { (turns : List ReplicaTurn) → StandsFor self.old turns →
+        ensures answer { (wrap : ℕ) (turns : List ReplicaTurn) → StandsFor self.old wrap turns →
             IsAcceptance (with_notes (taken_by (Accepts sid.0) turns) (known_by turns)) result }
         ensures given { AcceptsGiven self.old sid.0 self.new result }
         ensures few { HoldsFew self.new }
@@ -155,11 +167,14 @@ impl Replica {
     }
 
     /// Takes or holds a note, or refuses it, and then it counts as not delivered. What becomes of it is decided in this order:
-    /// - `Unknown`: its name is not the accepted one, and no subscribe request is out.
-    /// - `Repeat`: it came before.
+    /// - `Unknown`: its name is not the accepted one, and no subscribe request is out. Or it has no place.
+    /// - `Repeat`: a note of the accepted name came before at its place, or one of its name and place is held.
     /// - `Full`: it cannot be taken now, and 64 notes are held.
     /// - `Early`: its name is not the accepted one.
-    /// - `Held`: a SEQ before it is missing.
+    /// - `Held`: a place before its own is missing. The SEQ of the next place is told.
+    ///
+    /// SEQs wrap, and its place is the one with its SEQ that is near the next place to be taken, or near 0 if its name is not the
+    /// accepted one: at most a quarter of the wrap away. If there is none, or the next place is 2^63 or more, it has no place.
     ///
     /// Otherwise it and the held notes that follow it without a hole are to be taken. Two refusals may come:
     /// - `Jump`: the first change above the position is not the one after it.
@@ -169,19 +184,29 @@ impl Replica {
     /// is counted once, or kept for the load's end. All is decided, and all memory taken, before anything changes.
     pub fn notify(&mut self, alloc: Global, note: Note) -> Result<Taken, NotifyError>
         ensures unchanged { OnErr result (self.new ≡ self.old) }
-        ensures stands { UnlessNoMemory result (TakesTurn self.old (Delivers note) self.new) }
-        ensures answer { (turns : List ReplicaTurn) → StandsFor self.old turns →
-            IsNotice (arrival note turns) (with_notes (taken_by (Delivers note) turns) (known_by turns)) result }
+        ensures stands { UnlessNoMemory result (TakesNote self.old note self.new) }
+        ensures answer { (wrap : ℕ) (turns : List ReplicaTurn) → StandsFor self.old wrap turns →
+            IsNotice (arrival_on_wire wrap note turns) (heard (placed wrap note turns) turns) result }
         ensures given { HearsGiven self.old note self.new result }
         ensures few { HoldsFew self.new }
     {
-        let answer = self.deliver(alloc, note);
+        let answer = self.arrive(alloc, note);
         self.facts();
         answer
     }
 
-    /// Takes or holds a note, or refuses it.
-    fn deliver(&mut self, alloc: Global, note: Note) -> Result<Taken, NotifyError>
+    /// Gives a note its place, and takes or holds it, or refuses it.
+    fn arrive(&mut self, alloc: Global, note: Note) -> Result<Taken, NotifyError>
+        ensures { IsArrived (placed_in note self.old.inbox) self.old self.new result }
+    {
+        match self.inbox.place(note) {
+            Some(placed) => self.deliver(alloc, placed),
+            None => Err(NotifyError::Unknown),
+        }
+    }
+
+    /// Takes or holds a note at its place, or refuses it.
+    fn deliver(&mut self, alloc: Global, note: Placed) -> Result<Taken, NotifyError>
         ensures { IsDelivered (arrival_in note self.old.inbox) note self.old self.new result }
     {
         match self.inbox.arrival(&note) {
@@ -192,7 +217,8 @@ impl Replica {
                 self.inbox.hold_early(note)?;
                 Ok(Taken::Early)
             }
-            Arrival::Held { missing } => {
+            Arrival::Held => {
+                let missing = self.inbox.next_seq();
                 self.inbox.hold(note)?;
                 Ok(Taken::Held { missing })
             }
@@ -204,7 +230,7 @@ impl Replica {
     }
 
     /// Takes the next note and those that follow it.
-    fn take_note(&mut self, alloc: Global, note: &Note) -> Result<(), NotifyError>
+    fn take_note(&mut self, alloc: Global, note: &Placed) -> Result<(), NotifyError>
         requires { IsTrue (follows note.now self.old.inbox) }
         ensures { IsTaking (of_notes (note.now ∷ followers self.old.inbox) self.old.known) self.old (with_next self.old.inbox) self.new result }
     {
@@ -224,7 +250,7 @@ impl Replica {
     /// only if no load runs and nothing is unread.
     pub fn next_ask(&self) -> Option<Ask>
         ensures kept { result ≡ phase_ask self.now.known.phase }
-        ensures next { (turns : List ReplicaTurn) → StandsFor self.now turns → result ≡ next_ask (known_by turns) }
+        ensures next { (wrap : ℕ) (turns : List ReplicaTurn) → StandsFor self.now wrap turns → result ≡ next_ask (known_by turns) }
         ensures attempt { AsksByAttempt self.now result }
     {
         self.known.next_ask()
@@ -296,7 +322,7 @@ impl Replica {
         requires { IsSome (phase_ask self.old.known.phase) }
         ensures unchanged { OnErr result (self.new ≡ self.old) }
         ensures stands { UnlessMem result (TakesTurn self.old (Shows shown) self.new) }
-        ensures answer { (turns : List ReplicaTurn) → StandsFor self.old turns → IsAnswer (with_reply (known_by turns) (known_by turns).held shown) result }
+        ensures answer { (wrap : ℕ) (turns : List ReplicaTurn) → StandsFor self.old wrap turns → IsAnswer (with_reply (known_by turns) (known_by turns).held shown) result }
         ensures read { IfOk result (λ read. read ≡ read_of shown) }
         ensures given { TakesGiven self.old shown self.new result }
         ensures attempt { TakesByAttempt self.old shown result }
@@ -307,11 +333,11 @@ impl Replica {
         answer
     }
 
-    /// Returns what is known of the server's catalog, in this order: a SEQ is missing; no copy stands; an object is unread; an
+    /// Returns what is known of the server's catalog, in this order: a place is missing, and its SEQ is told; no copy stands; an object is unread; an
     /// object was read as it was after a change that no note has told yet; or the copy stands at the position.
     pub fn says(&self) -> Says
         ensures kept { result ≡ kept_says self.now }
-        ensures says { (turns : List ReplicaTurn) → StandsFor self.now turns → result ≡ says turns }
+        ensures says { (wrap : ℕ) (turns : List ReplicaTurn) → StandsFor self.now wrap turns → result ≡ says_on_wire wrap turns }
         ensures given { SaysGiven self.now result }
         ensures complete { CompletesGiven self.now result }
         ensures attempt { SaysByAttempt self.now result }
@@ -326,8 +352,8 @@ impl Replica {
     /// of ids. It is `None` past the end, and if no copy stands. It takes a walk over the rows.
     pub fn rows(&self, at: usize) -> Option<&Row>
         ensures kept { option_copied result ≡ slice_get (phase_rows self.now.known.phase) at }
-        ensures row { (turns : List ReplicaTurn) → StandsFor self.now turns → option_copied result ≡ slice_get (copied (known_by turns)) at }
-        ensures shown { (turns : List ReplicaTurn) → StandsFor self.now turns → IfSome result (λ row. WasShown row.now turns) }
+        ensures row { (wrap : ℕ) (turns : List ReplicaTurn) → StandsFor self.now wrap turns → option_copied result ≡ slice_get (copied (known_by turns)) at }
+        ensures shown { (wrap : ℕ) (turns : List ReplicaTurn) → StandsFor self.now wrap turns → IfSome result (λ row. WasShown row.now turns) }
         ensures replied { IfSome result (λ row. WasReplied self.now row.now) }
     {
         self.known.row(at)
@@ -337,17 +363,26 @@ impl Replica {
     /// none if no copy stands. To go over them takes one walk.
     pub fn copy(&self) -> &[CopyRow]
         ensures kept { map (λ kept. kept.row) result.now ≡ phase_all self.now.known.phase }
-        ensures rows { (turns : List ReplicaTurn) → StandsFor self.now turns →
+        ensures rows { (wrap : ℕ) (turns : List ReplicaTurn) → StandsFor self.now wrap turns →
             filter_map shown_row (map (λ kept. kept.row) result.now) ≡ copied (known_by turns) }
         ensures attempt { CopiesByAttempt self.now (map (λ kept. kept.row) result.now) }
     {
         self.known.rows()
     }
 
+    /// Returns the place after the notes that were taken: how many notes of the subscription that was accepted last were. It is 0 if
+    /// none was accepted.
+    pub fn next_place(&self) -> u64
+        ensures kept { result ≡ self.now.inbox.next }
+        ensures place { (wrap : ℕ) (turns : List ReplicaTurn) → StandsFor self.now wrap turns → result ≡ next_place turns }
+    {
+        self.inbox.next_place()
+    }
+
     /// Returns the name of the subscription that was accepted last.
     pub fn accepted(&self) -> Option<Sid>
         ensures kept { option_map (λ sid. sid.0) result ≡ self.now.inbox.accepted }
-        ensures name { (turns : List ReplicaTurn) → StandsFor self.now turns → option_map (λ sid. sid.0) result ≡ accepted turns }
+        ensures name { (wrap : ℕ) (turns : List ReplicaTurn) → StandsFor self.now wrap turns → option_map (λ sid. sid.0) result ≡ accepted turns }
     {
         self.inbox.accepted()
     }

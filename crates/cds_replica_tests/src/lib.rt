@@ -14,3 +14,7 @@ mod replica_tests;
 mod stream_tests;
 #[cfg(test)]
 mod wire_tests;
+#[cfg(test)]
+mod wrap_script_tests;
+#[cfg(test)]
+mod wrap_tests;

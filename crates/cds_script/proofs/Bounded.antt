@@ -15,7 +15,7 @@ use Rattle.cds_load.specs.declared.exchange.Ask.{Ask as Asked}
 use Rattle.cds_load.specs.declared.exchange.Shown.{Shown}
 use Rattle.cds_load.specs.Server.{Moment, reply_to}
 use Rattle.cds_load.specs.Stages.{Held, Idle, Begun, HasToken, HasNumber, HasRoot, Lists, HasPage, HasCopy, taken, held_by, next_ask as load_ask, Begins as LoadBegins, Shows as LoadShows, Loads}
-use Rattle.cds_script.specs.Report.{script_token, number_of, first_of, clock_of, records_since, Played, after_reply, after_note, sent_note, given_up, with_renewal, lives, play, played, history_of, answer_text}
+use Rattle.cds_script.specs.Report.{script_token, number_of, first_of, clock_of, records_since, Played, after_reply, after_note, reaching, sent_note, given_up, with_renewal, lives, play, played, history_of, answer_text}
 use Rattle.cds_load.specs.Loads.{load_reads, held_with, read_once}
 use Rattle.cds_script.specs.LoadBounds.{answered, drops, reply_drops, note_drops, answered_after, answered_since, loads_are_bounded, all_turns_bound_loads}
 use Rattle.cds_load.proofs.Honest.{IsServed, IsGiven as IsHeldGiven}
@@ -33,6 +33,7 @@ use Rattle.cds_follow.specs.HonestLaws.{begins_load, load_was_begun}
 use Rattle.cds_follow.specs.KnownLaws.{has_copy}
 use Rattle.cds_follow.specs.LoadTurns.{load_turns}
 use Rattle.cds_follow.specs.ServerLaws.{served}
+use Rattle.cds_follow.specs.Wire.{says_by_seq}
 use Rattle.cds_follow.specs.declared.says.Says.{Says}
 use Rattle.cds_follow.specs.declared.says.Says.TheVariants.{Gap, BehindLoad, BehindRead, BehindVersion, Stands}
 use Rattle.cds_follow.proofs.Served.{commands-serve}
@@ -40,8 +41,10 @@ use Rattle.cds_follow.proofs.Stages.{following-later}
 use Rattle.cds_follow.proofs.Honest.{entries-served}
 use Rattle.cds_follow.proofs.LoadTurns.{loads-are-of-turns}
 use Rattle.cds_script.specs.declared.turn.ScriptTurn.{ScriptTurn}
-use Rattle.cds_script.specs.declared.turn.ScriptTurn.TheVariants.{Folder, Track, Tag, Scan, Load, Read, Ask, First, At, Subscribe, Accept, Renew, Unsubscribe, Deliver, ReadFault}
+use Rattle.cds_script.specs.declared.turn.ScriptTurn.TheVariants.{Folder, Track, Tag, Scan, Load, Read, Ask, First, Wrap, At, Subscribe, Accept, Renew, Unsubscribe, Deliver, ReadFault}
 use Rattle.cds_script.proofs.Given.{Kept, ScannedCases, scanned-cases, oldest-all, turns-kept}
+use Rattle.cds_script.specs.Played.{AllStand}
+use Rattle.cds_script.proofs.Wrapped.{Reaches, next-reaches}
 use Rattle.cds_script.proofs.Stood.{read-taken, note-taken, name-taken, may-before_ask, letter_at}
 use Rattle.cds_script.specs.declared.reply.HeldReply.{HeldReply}
 use Rattle.cds_script.specs.declared.reply.HeldReply.TheVariants.{NoReply, Named, Refusal}
@@ -275,10 +278,10 @@ reply-bound first m p kept n bound (Named name) e =
     (taken-bound m p.replica (Accepts name) n refl
     (loads-are-of-turns (Accepts name ∷ p.replica) ∙ notes-held p.replica (is_drop (position (known_by p.replica)) (taken_by (Accepts name) p.replica))) bound))
 
-note-bound : (first : ℕ) (m : Moment) (p : Played) → Kept first p → (n number : ℕ) → Bound m p.replica n → (o : Option Note) → sent_note number (notes_of first p.commands) ≡ o →
-    Bound m (after_note o p.replica) (cond (note_drops o p.replica) 0 n)
-note-bound first m p kept n number bound None e = bound
-note-bound first m p kept n number bound (Some note) e = by (is_turned_away (arrival note p.replica)) refl
+-- a note that was sent
+sent-bound : (first : ℕ) (m : Moment) (p : Played) → Kept first p → (n number : ℕ) → Bound m p.replica n → (note : Note) → sent_note number (notes_of first p.commands) ≡ Some note →
+    Bound m (and_turn (Delivers note) p.replica) (cond (drops (Delivers note) p.replica) 0 n)
+sent-bound first m p kept n number bound note e = by (is_turned_away (arrival note p.replica)) refl
   where
     ok : (now : Known) × (with_notes (taken_by (Delivers note) p.replica) (known_by p.replica) ≡ Goes now)
     ok = note-taken first p kept number note e
@@ -296,80 +299,97 @@ note-bound first m p kept n number bound (Some note) e = by (is_turned_away (arr
         (taken-bound m p.replica (Delivers note) n refl
         (loads-are-of-turns (Delivers note ∷ p.replica) ∙ notes-held p.replica (is_drop (position (known_by p.replica)) (taken_by (Delivers note) p.replica))) bound)
 
+-- a note that reaches the replica was sent, or is refused
+note-bound : (first : ℕ) (m : Moment) (p : Played) → Kept first p → (n number : ℕ) → Bound m p.replica n → (o : Option Note) →
+    ((note : Note) → o ≡ Some note → (sent_note number (notes_of first p.commands) ≡ Some note) ⊎ (is_refused (Delivers note) p.replica ≡ true)) →
+    Bound m (after_note o p.replica) (cond (note_drops o p.replica) 0 n)
+note-bound first m p kept n number bound None from = bound
+note-bound first m p kept n number bound (Some note) from = by (from note refl)
+  where
+    by : (sent_note number (notes_of first p.commands) ≡ Some note) ⊎ (is_refused (Delivers note) p.replica ≡ true) →
+        Bound m (and_turn (Delivers note) p.replica) (cond (drops (Delivers note) p.replica) 0 n)
+    by (inl e) = sent-bound first m p kept n number bound note e
+    by (inr refused) =
+        subst (λ (b : Bool). Bound m (cond b p.replica (Delivers note ∷ p.replica)) (cond (not b && is_drop (position (known_by p.replica)) (taken_by (Delivers note) p.replica)) 0 n))
+        (sym refused) bound
+
 -- ---- all turns
 
-given_up-same : (first now : ℕ) (commands : List Command) (o : Option ℕ) → moment_after script_token first (given_up o first now commands) ≡ moment_after script_token first commands
+given_up-same : (first now : ℕ) (commands : List Command) (o : Option ℕ) → moment_after script_token first (given_up o now commands) ≡ moment_after script_token first commands
 given_up-same first now commands None = refl
-given_up-same first now commands (Some name) = by (lives name first now commands)
+given_up-same first now commands (Some name) = by (lives name now commands)
   where
     by : (b : Bool) → moment_after script_token first (cond b (Ends now name ∷ commands) commands) ≡ moment_after script_token first commands
     by true = refl
     by false = refl
 
 renewal-same : (first now : ℕ) (commands : List Command) (o : Option ℕ) →
-    moment_after script_token first (with_renewal o first now commands) ≡ moment_after script_token first commands
+    moment_after script_token first (with_renewal o now commands) ≡ moment_after script_token first commands
 renewal-same first now commands None = refl
-renewal-same first now commands (Some name) = by (lives name first now commands)
+renewal-same first now commands (Some name) = by (lives name now commands)
   where
     by : (b : Bool) → moment_after script_token first (cond b (Renews now name granted_seconds ∷ commands) commands) ≡ moment_after script_token first commands
     by true = refl
     by false = refl
 
-step : (first now : ℕ) (records : List Record) (p : Played) → Kept first p → (n : ℕ) → Bound (moment_after script_token first p.commands) p.replica n → (turn : ScriptTurn) →
+step : (first now : ℕ) (records : List Record) (p : Played) → Kept first p → (n : ℕ) → Bound (moment_after script_token first p.commands) p.replica n → (turn : ScriptTurn) → Reaches first p turn →
     Bound (moment_after script_token first (play first now records p turn).commands) (play first now records p turn).replica (answered_after first records p n turn)
-step first now records p kept n bound (Folder path) = bound
-step first now records p kept n bound (Track path info size) = bound
-step first now records p kept n bound (Tag comment) = bound
-step first now records p kept n bound Scan = scan-bound first records p kept n bound _ (scanned-cases (scans_of first p.commands) records p.commands)
-step first now records p kept n bound Load = begun-bound (moment_after script_token first p.commands) (Begins ∷ p.replica) refl
-step first now records p kept n bound Read = read-bound first p kept n bound (next_ask (known_by p.replica)) refl
-step first now records p kept n bound Ask = bound
-step first now records p kept n bound (First number) = bound
-step first now records p kept n bound (At moment) = bound
-step first now records p kept n bound Subscribe = by (has_room now p.commands (notes_of first p.commands))
+step first now records p kept n bound (Folder path) reaches = bound
+step first now records p kept n bound (Track path info size) reaches = bound
+step first now records p kept n bound (Tag comment) reaches = bound
+step first now records p kept n bound Scan reaches = scan-bound first records p kept n bound _ (scanned-cases (scans_of first p.commands) records p.commands)
+step first now records p kept n bound Load reaches = begun-bound (moment_after script_token first p.commands) (Begins ∷ p.replica) refl
+step first now records p kept n bound Read reaches = read-bound first p kept n bound (next_ask (known_by p.replica)) refl
+step first now records p kept n bound Ask reaches = bound
+step first now records p kept n bound (First number) reaches = bound
+step first now records p kept n bound (Wrap number) reaches = bound
+step first now records p kept n bound (At moment) reaches = bound
+step first now records p kept n bound Subscribe reaches = by (has_room now p.commands)
   where
     called : Bound (moment_after script_token first p.commands) (Requests ∷ p.replica) n
     called = same-bound (moment_after script_token first p.commands) p.replica (Requests ∷ p.replica) n refl refl bound
 
     by : (b : Bool) → let after : Played = cond b
-        (record { commands = grant_at now ∷ p.commands; replica = Requests ∷ p.replica; reply = Named (granted p.commands + 1) })
-        (record { commands = p.commands; replica = Requests ∷ p.replica; reply = Refusal }) in Bound (moment_after script_token first after.commands) after.replica n
+        (record p { commands = grant_at now ∷ p.commands; replica = Requests ∷ p.replica; reply = Named (granted p.commands + 1) })
+        (record p { replica = Requests ∷ p.replica; reply = Refusal }) in Bound (moment_after script_token first after.commands) after.replica n
     by true = called
     by false = called
-step first now records p kept n bound Accept = reply-bound first (moment_after script_token first p.commands) p kept n bound p.reply refl
-step first now records p kept n bound Renew = subst (λ m. Bound m p.replica n) (sym (renewal-same first now p.commands (accepted p.replica))) bound
-step first now records p kept n bound Unsubscribe =
+step first now records p kept n bound Accept reaches = reply-bound first (moment_after script_token first p.commands) p kept n bound p.reply refl
+step first now records p kept n bound Renew reaches = subst (λ m. Bound m p.replica n) (sym (renewal-same first now p.commands (accepted p.replica))) bound
+step first now records p kept n bound Unsubscribe reaches =
     subst (λ m. Bound m p.replica n) (sym (given_up-same first now p.commands (accepted p.replica))) bound
-step first now records p kept n bound (Deliver note) = note-bound first (moment_after script_token first p.commands) p kept n note bound (sent_note note (notes_of first p.commands)) refl
-step first now records p kept n bound ReadFault = bound
+step first now records p kept n bound (Deliver note) reaches = note-bound first (moment_after script_token first p.commands) p kept n note bound (reaching p.wrap p.replica (sent_note note (notes_of first p.commands))) reaches
+step first now records p kept n bound ReadFault reaches = bound
 
 nothing-bound : (m : Moment) → Bound m [] 0
 nothing-bound m = inl (refl, refl)
 
-first-bound : (turn : ScriptTurn) → number_of turn ≤ 4294967295 → Bound (moment_after script_token (number_of turn) (play 0 0 [] (played []) turn).commands) (play 0 0 [] (played []) turn).replica
+first-bound : (turn : ScriptTurn) → number_of turn ≤ 4294967295 → Reaches 0 (played []) turn → Bound (moment_after script_token (number_of turn) (play 0 0 [] (played []) turn).commands) (play 0 0 [] (played []) turn).replica
     (answered_after 0 [] (played []) 0 turn)
-first-bound (First number) low = nothing-bound (moment_after script_token number [])
-first-bound (Folder path) low = nothing-bound (moment_after script_token 0 [])
-first-bound (Track path info size) low = nothing-bound (moment_after script_token 0 [])
-first-bound (Tag comment) low = nothing-bound (moment_after script_token 0 [])
-first-bound Scan low = step 0 0 [] (played []) (turns-kept [] low) 0 (nothing-bound (moment_after script_token 0 [])) Scan
-first-bound Load low = step 0 0 [] (played []) (turns-kept [] low) 0 (nothing-bound (moment_after script_token 0 [])) Load
-first-bound Read low = step 0 0 [] (played []) (turns-kept [] low) 0 (nothing-bound (moment_after script_token 0 [])) Read
-first-bound Ask low = nothing-bound (moment_after script_token 0 [])
-first-bound (At moment) low = step 0 0 [] (played []) (turns-kept [] low) 0 (nothing-bound (moment_after script_token 0 [])) (At moment)
-first-bound Subscribe low = step 0 0 [] (played []) (turns-kept [] low) 0 (nothing-bound (moment_after script_token 0 [])) Subscribe
-first-bound Accept low = step 0 0 [] (played []) (turns-kept [] low) 0 (nothing-bound (moment_after script_token 0 [])) Accept
-first-bound Renew low = step 0 0 [] (played []) (turns-kept [] low) 0 (nothing-bound (moment_after script_token 0 [])) Renew
-first-bound Unsubscribe low = step 0 0 [] (played []) (turns-kept [] low) 0 (nothing-bound (moment_after script_token 0 [])) Unsubscribe
-first-bound (Deliver note) low = step 0 0 [] (played []) (turns-kept [] low) 0 (nothing-bound (moment_after script_token 0 [])) (Deliver note)
-first-bound ReadFault low = nothing-bound (moment_after script_token 0 [])
+first-bound (First number) low reaches = nothing-bound (moment_after script_token number [])
+first-bound (Folder path) low reaches = nothing-bound (moment_after script_token 0 [])
+first-bound (Track path info size) low reaches = nothing-bound (moment_after script_token 0 [])
+first-bound (Tag comment) low reaches = nothing-bound (moment_after script_token 0 [])
+first-bound Scan low reaches = step 0 0 [] (played []) (turns-kept [] low tt) 0 (nothing-bound (moment_after script_token 0 [])) Scan reaches
+first-bound Load low reaches = step 0 0 [] (played []) (turns-kept [] low tt) 0 (nothing-bound (moment_after script_token 0 [])) Load reaches
+first-bound Read low reaches = step 0 0 [] (played []) (turns-kept [] low tt) 0 (nothing-bound (moment_after script_token 0 [])) Read reaches
+first-bound Ask low reaches = nothing-bound (moment_after script_token 0 [])
+first-bound (Wrap number) low reaches = nothing-bound (moment_after script_token 0 [])
+first-bound (At moment) low reaches = step 0 0 [] (played []) (turns-kept [] low tt) 0 (nothing-bound (moment_after script_token 0 [])) (At moment) reaches
+first-bound Subscribe low reaches = step 0 0 [] (played []) (turns-kept [] low tt) 0 (nothing-bound (moment_after script_token 0 [])) Subscribe reaches
+first-bound Accept low reaches = step 0 0 [] (played []) (turns-kept [] low tt) 0 (nothing-bound (moment_after script_token 0 [])) Accept reaches
+first-bound Renew low reaches = step 0 0 [] (played []) (turns-kept [] low tt) 0 (nothing-bound (moment_after script_token 0 [])) Renew reaches
+first-bound Unsubscribe low reaches = step 0 0 [] (played []) (turns-kept [] low tt) 0 (nothing-bound (moment_after script_token 0 [])) Unsubscribe reaches
+first-bound (Deliver note) low reaches = step 0 0 [] (played []) (turns-kept [] low tt) 0 (nothing-bound (moment_after script_token 0 [])) (Deliver note) reaches
+first-bound ReadFault low reaches = nothing-bound (moment_after script_token 0 [])
 
-bounds : (turns : List ScriptTurn) → first_of turns ≤ 4294967295 → Bound (moment_after script_token (first_of turns) (played turns).commands) (played turns).replica (answered_since turns)
-bounds [] low = nothing-bound (moment_after script_token 0 [])
-bounds (turn ∷ []) low = first-bound turn low
-bounds (turn ∷ next ∷ older) low =
-    step (first_of (next ∷ older)) (clock_of (next ∷ older)) (records_since (next ∷ older)) (played (next ∷ older)) (turns-kept (next ∷ older) low)
-    (answered_since (next ∷ older)) (bounds (next ∷ older) low) turn
+bounds : (turns : List ScriptTurn) → first_of turns ≤ 4294967295 → AllStand turns →
+    Bound (moment_after script_token (first_of turns) (played turns).commands) (played turns).replica (answered_since turns)
+bounds [] low all = nothing-bound (moment_after script_token 0 [])
+bounds (turn ∷ []) low all = first-bound turn low (next-reaches turn [] all)
+bounds (turn ∷ next ∷ older) low all =
+    step (first_of (next ∷ older)) (clock_of (next ∷ older)) (records_since (next ∷ older)) (played (next ∷ older)) (turns-kept (next ∷ older) low all.1)
+    (answered_since (next ∷ older)) (bounds (next ∷ older) low all.1) turn (next-reaches turn (next ∷ older) all)
 
 -- where no copy stands some reads are owed
 behind-no_copy : (r : List ReplicaTurn) → says r ≡ BehindLoad → has_copy (known_by r).held ≡ false
@@ -393,10 +413,10 @@ behind-no_copy r behind = by (missing r) behind
     by None e = held-on (known_by r).held e
 
 pub loads-bounded : loads_are_bounded
-loads-bounded turns may behind = by (bounds turns may.number)
+loads-bounded turns may behind = by (bounds turns may.number may.stand)
   where
     kept : Kept (first_of turns) (played turns)
-    kept = turns-kept turns may.number
+    kept = turns-kept turns may.number may.stand
 
     m : Moment
     m = moment_after script_token (first_of turns) (played turns).commands
@@ -427,8 +447,8 @@ unfolding letter_at
 turns-bound_loads turns may newer older parts written =
     loads-bounded older (may-before_ask newer older turns parts may) (by (says (played older).replica) written)
   where
-    by : (s : Says) → answer_text (history_of older) s ≡ codes "behind load\n" → s ≡ BehindLoad
-    by (Gap seq) e = let letter : 103 ≡ 98 = ap (letter_at 0) e in absurd (omega (arith, letter))
+    by : (s : Says) → answer_text (history_of older) (says_by_seq (played older).wrap s) ≡ codes "behind load\n" → s ≡ BehindLoad
+    by (Gap place) e = let letter : 103 ≡ 98 = ap (letter_at 0) e in absurd (omega (arith, letter))
     by BehindLoad e = refl
     by (BehindRead id) e = let letter : 114 ≡ 108 = ap (letter_at 7) e in absurd (omega (arith, letter))
     by (BehindVersion number) e = let letter : 118 ≡ 108 = ap (letter_at 7) e in absurd (omega (arith, letter))

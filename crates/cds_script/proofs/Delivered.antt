@@ -9,23 +9,27 @@ use Rattle.cds_object.specs.declared.record.Record.{Record}
 use Rattle.cds_object.specs.Object.{ObjectRow, is_folder}
 use Rattle.cds_object.specs.Tree.{row_of, children_of}
 use Rattle.cds_load.specs.Server.{Moment, page_size, update_of, reply_to, metadata_reply, children_reply}
-use Rattle.cds_script.specs.Report.{read_text, reply_text, first_of, clock_of, records_since, Played, after_reply, after_note, sent_note, lives, given_up, with_renewal, play, played, script_token}
+use Rattle.cds_script.specs.Report.{read_text, reply_text, first_of, clock_of, records_since, Played, after_reply, after_note, reaching, is_recent_one, sent_note, lives, given_up, with_renewal, play, played, script_token}
 use Rattle.cds_load.specs.declared.exchange.Ask.{Ask as Asked}
 use Rattle.cds_load.specs.declared.exchange.Ask.TheVariants.{Token, Number as AskNumber, Metadata, Children}
 use Rattle.cds_load.specs.declared.exchange.Shown.TheVariants.{Page, Fault}
 use Rattle.cds_commands.specs.Commands.{Command, Renews, Ends, Ticks, scans_of}
 use Rattle.cds_commands.specs.Notes.{Note, has_room, notes_of, sent_by}
 use Rattle.cds_commands.specs.Subscriptions.{granted}
-use Rattle.cds_follow.specs.Inbox.{ReplicaTurn, Begins, Shows, Requests, Accepts, Delivers, Arrival, IsUnknown, IsRepeat, IsTooMany, IsEarly, IsHeld, IsNext, is_out, accepted, is_accepted, is_early, early_notes, received, has_seq, next_seq, held_notes, held_limit, is_repeat, is_next, taken_by, arrival}
+use Rattle.cds_follow.specs.Inbox.{ReplicaTurn, Begins, Shows, Requests, Accepts, Delivers, Arrival, IsUnknown, IsRepeat, IsTooMany, IsEarly, IsHeld, IsNext, is_out, accepted, is_accepted, is_early, early_notes, received, has_place, taken_by, arrival}
 use Rattle.cds_follow.specs.Follow.{Known, with_notes, is_turned_away, is_refused, and_turn, known_by, next_ask}
 use Rattle.cds_follow.specs.Given.{moment_after, asked_at}
+use Rattle.cds_commands.specs.Wire.{on_wire}
+use Rattle.cds_follow.specs.Wire.{placed, arrival_by_seq, arrival_of, arrival_on_wire, is_recent}
+use Rattle.cds_follow.proofs.Wire.{placed-or-unknown}
 use Rattle.cds_commands.proofs.Among.{Among, among-contained, among-all, among-filter}
 use Rattle.cds_commands.proofs.Sent.{Sound, all-sound}
 use Rattle.cds_script.specs.declared.turn.ScriptTurn.{ScriptTurn}
-use Rattle.cds_script.specs.declared.turn.ScriptTurn.TheVariants.{Folder, Track, Tag, Scan, Load, Read, Ask, First, At, Subscribe, Accept, Renew, Unsubscribe, Deliver, ReadFault}
+use Rattle.cds_script.specs.declared.turn.ScriptTurn.TheVariants.{Folder, Track, Tag, Scan, Load, Read, Ask, First, Wrap, At, Subscribe, Accept, Renew, Unsubscribe, Deliver, ReadFault}
 use Rattle.cds_script.specs.Played.{AllStand}
-use Rattle.cds_script.specs.Complete.{is_full, delivered_notes_are_received, is_quiet, nothing_is_to_be_read, all_answers_are_complete}
+use Rattle.cds_script.specs.Complete.{is_lost, delivered_notes_are_received, is_quiet, nothing_is_to_be_read, all_answers_are_complete}
 use Rattle.cds_script.proofs.Given.{Waits, Kept, ScannedCases, scanned-cases, granted-rises, sent-place, sent-contained, turns-kept}
+use Rattle.cds_script.proofs.Wrapped.{wide}
 use Rattle.cds_script.proofs.Stood.{note-taken, name-taken, may-before_ask, answers-are_complete}
 use Rattle.cds_script.specs.declared.reply.HeldReply.{HeldReply}
 use Rattle.cds_script.specs.declared.reply.HeldReply.TheVariants.{NoReply, Named, Refusal}
@@ -87,9 +91,8 @@ accepted-noted : (o : Option Note) (turns : List ReplicaTurn) → accepted (afte
 accepted-noted None turns = refl
 accepted-noted (Some note) turns = accepted-and (Delivers note) turns refl
 
-replica-named : (commands : List Command) (replica then : List ReplicaTurn) (reply : HeldReply) → accepted then ≡ accepted replica →
-    NamesRise (record { commands = commands; replica = replica; reply = reply }) → NamesRise (record { commands = commands; replica = then; reply = reply })
-replica-named commands replica then reply e named = record {
+replica-named : (p : Played) (then : List ReplicaTurn) → accepted then ≡ accepted p.replica → NamesRise p → NamesRise (record p { replica = then })
+replica-named p then e named = record {
   granted_one = λ name f. named.granted_one name (sym e ∙ f);
   before = λ name next f g. named.before name next (sym e ∙ f) g;
 }
@@ -106,12 +109,13 @@ same-named p commands e named = record {
   before = named.before;
 }
 
-reply-named : (first : ℕ) (commands : List Command) (replica : List ReplicaTurn) (reply : HeldReply) →
-    Kept first (record { commands = commands; replica = replica; reply = reply }) → NamesRise (record { commands = commands; replica = replica; reply = reply }) →
-    NamesRise (record { commands = commands; replica = after_reply reply replica; reply = NoReply })
-reply-named first commands replica NoReply kept named = record { granted_one = named.granted_one; before = λ name next f g. absurd (cc) }
-reply-named first commands replica Refusal kept named = record { granted_one = named.granted_one; before = λ name next f g. absurd (cc) }
-reply-named first commands replica (Named other) kept named = record {
+reply-named : (first wrap : ℕ) (commands : List Command) (replica : List ReplicaTurn) (reply : HeldReply) →
+    Kept first (record { commands = commands; replica = replica; reply = reply; wrap = wrap }) →
+    NamesRise (record { commands = commands; replica = replica; reply = reply; wrap = wrap }) →
+    NamesRise (record { commands = commands; replica = after_reply reply replica; reply = NoReply; wrap = wrap })
+reply-named first wrap commands replica NoReply kept named = record { granted_one = named.granted_one; before = λ name next f g. absurd (cc) }
+reply-named first wrap commands replica Refusal kept named = record { granted_one = named.granted_one; before = λ name next f g. absurd (cc) }
+reply-named first wrap commands replica (Named other) kept named = record {
   granted_one = λ name f. by name (is_refused (Accepts other) replica) f;
   before = λ name next f g. absurd (cc);
 }
@@ -129,24 +133,25 @@ step-named first now records p kept named Scan = by _ (scanned-cases (scans_of f
     by : (after : List Command) → ScannedCases (scans_of first p.commands) records p.commands after → NamesRise (record p { commands = after })
     by after (inl e) = same-named p after e named
     by after (inr e) = subst (λ (cs : List Command). NamesRise (record p { commands = cs })) (sym e.3) (command-named p _ named)
-step-named first now records p kept named Load = replica-named p.commands p.replica (Begins ∷ p.replica) p.reply refl named
+step-named first now records p kept named Load = replica-named p (Begins ∷ p.replica) refl named
 step-named first now records p kept named Read =
-    replica-named p.commands p.replica (asked_at (moment_after script_token first p.commands) p.replica (next_ask (known_by p.replica))) p.reply
+    replica-named p (asked_at (moment_after script_token first p.commands) p.replica (next_ask (known_by p.replica)))
     (accepted-asked (moment_after script_token first p.commands) p.replica (next_ask (known_by p.replica))) named
 step-named first now records p kept named Ask = named
 step-named first now records p kept named (First number) = named
+step-named first now records p kept named (Wrap number) = record { granted_one = named.granted_one; before = named.before }
 step-named first now records p kept named (At moment) = command-named p (Ticks moment) named
-step-named first now records p kept named Subscribe = by (has_room now p.commands (notes_of first p.commands))
+step-named first now records p kept named Subscribe = by (has_room now p.commands)
   where
     by : (b : Bool) → NamesRise (cond b
-        (record { commands = grant_at now ∷ p.commands; replica = Requests ∷ p.replica; reply = Named (granted p.commands + 1) })
-        (record { commands = p.commands; replica = Requests ∷ p.replica; reply = Refusal }))
+        (record p { commands = grant_at now ∷ p.commands; replica = Requests ∷ p.replica; reply = Named (granted p.commands + 1) })
+        (record p { replica = Requests ∷ p.replica; reply = Refusal }))
     by true = record {
       granted_one = λ name f. let one = named.granted_one name f in omega (arith, one);
       before = λ name next f g. let one = named.granted_one name f in let same : granted p.commands + 1 ≡ next = cc in omega (arith, one, same);
     }
     by false = record { granted_one = named.granted_one; before = λ name next f g. absurd (cc) }
-step-named first now records p kept named Accept = reply-named first p.commands p.replica p.reply
+step-named first now records p kept named Accept = reply-named first p.wrap p.commands p.replica p.reply
     (record { accepted = kept.accepted; entries = kept.entries; given = kept.given; are = kept.are; within = kept.within; waits = kept.waits })
     (record { granted_one = named.granted_one; before = named.before })
 step-named first now records p kept named Renew = by (accepted p.replica)
@@ -155,21 +160,21 @@ step-named first now records p kept named Renew = by (accepted p.replica)
     on name true = command-named p (Renews now name granted_seconds) named
     on name false = same-named p p.commands refl named
 
-    by : (o : Option ℕ) → NamesRise (record p { commands = with_renewal o first now p.commands })
+    by : (o : Option ℕ) → NamesRise (record p { commands = with_renewal o now p.commands })
     by None = same-named p p.commands refl named
-    by (Some name) = on name (lives name first now p.commands)
+    by (Some name) = on name (lives name now p.commands)
 step-named first now records p kept named Unsubscribe = by (accepted p.replica)
   where
     on : (name : ℕ) (b : Bool) → NamesRise (record p { commands = cond b (Ends now name ∷ p.commands) p.commands })
     on name true = command-named p (Ends now name) named
     on name false = same-named p p.commands refl named
 
-    by : (o : Option ℕ) → NamesRise (record p { commands = given_up o first now p.commands })
+    by : (o : Option ℕ) → NamesRise (record p { commands = given_up o now p.commands })
     by None = same-named p p.commands refl named
-    by (Some name) = on name (lives name first now p.commands)
+    by (Some name) = on name (lives name now p.commands)
 step-named first now records p kept named (Deliver note) =
-    replica-named p.commands p.replica (after_note (sent_note note (notes_of first p.commands)) p.replica) p.reply
-    (accepted-noted (sent_note note (notes_of first p.commands)) p.replica) named
+    replica-named p (after_note (reaching p.wrap p.replica (sent_note note (notes_of first p.commands))) p.replica)
+    (accepted-noted (reaching p.wrap p.replica (sent_note note (notes_of first p.commands))) p.replica) named
 step-named first now records p kept named ReadFault = named
 
 nothing-named : NamesRise (played [])
@@ -180,10 +185,11 @@ low-older : (turn : ScriptTurn) (older : List ScriptTurn) → first_of (turn ∷
 low-older turn [] low = omega arith
 low-older turn (next ∷ older) low = low
 
-turns-named : (turns : List ScriptTurn) → first_of turns ≤ 4294967295 → NamesRise (played turns)
-turns-named [] low = nothing-named
-turns-named (turn ∷ older) low =
-    step-named (first_of older) (clock_of older) (records_since older) (played older) (turns-kept older (low-older turn older low)) (turns-named older (low-older turn older low)) turn
+turns-named : (turns : List ScriptTurn) → first_of turns ≤ 4294967295 → AllStand turns → NamesRise (played turns)
+turns-named [] low all = nothing-named
+turns-named (turn ∷ older) low all =
+    step-named (first_of older) (clock_of older) (records_since older) (played older) (turns-kept older (low-older turn older low) all.1)
+    (turns-named older (low-older turn older low) all.1) turn
 
 -- ---- a note that was delivered
 
@@ -195,41 +201,14 @@ record Got (p : Played) (note : Note) : Type 0 where
 is-accepted : (note : Note) (r : List ReplicaTurn) → accepted r ≡ Some note.name → is_accepted note.name r ≡ true
 is-accepted note r e = ap (λ o. option_eq nat_eq o (Some note.name)) e ∙ eq-eqb note.name note.name refl
 
--- a name that is not known is neither accepted nor that of a request that is out
-unknown-parts : (note : Note) (r : List ReplicaTurn) → arrival note r ≡ IsUnknown → (is_accepted note.name r ≡ false) × (is_out r ≡ false)
-unknown-parts note r e =
-    by (is_accepted note.name r) (is_out r) (is_repeat note r) (not (is_next note r) && nat_le held_limit (length (held_notes r))) (not (is_accepted note.name r))
-    (nat_lt (next_seq r) note.seq) e
-  where
-    by : (a o t m n h : Bool) → cond (not a && not o) IsUnknown (cond t IsRepeat (cond m (IsTooMany (length (held_notes r))) (cond n IsEarly (cond h (IsHeld (next_seq r)) IsNext)))) ≡ IsUnknown →
-        (a ≡ false) × (o ≡ false)
-    by false false t m n h f = (refl, refl)
-    by false true true m n h f = absurd (cc)
-    by false true false true n h f = absurd (cc)
-    by false true false false true h f = absurd (cc)
-    by false true false false false true f = absurd (cc)
-    by false true false false false false f = absurd (cc)
-    by true o true m n h f = absurd (cc)
-    by true o false true n h f = absurd (cc)
-    by true o false false true h f = absurd (cc)
-    by true o false false false true f = absurd (cc)
-    by true o false false false false f = absurd (cc)
-
-turned-unknown : (a : Arrival) → is_turned_away a ≡ true → is_full a ≡ false → a ≡ IsUnknown
-turned-unknown IsUnknown t f = refl
-turned-unknown IsRepeat t f = absurd (cc)
-turned-unknown (IsTooMany held) t f = absurd (cc)
-turned-unknown IsEarly t f = absurd (cc)
-turned-unknown (IsHeld seq) t f = absurd (cc)
-turned-unknown IsNext t f = absurd (cc)
-
 -- a request is out while a reply is held back
 waits-out : (first : ℕ) (p : Played) (kept : Kept first p) (name : ℕ) → p.reply ≡ Named name → is_out p.replica ≡ true
 waits-out first p kept name e = (subst (Waits p.commands kept.entries p.replica) e kept.waits).0
 
 delivered-got : (first number : ℕ) (p : Played) (note : Note) → Kept first p → NamesRise p → sent_note number (notes_of first p.commands) ≡ Some note →
-    is_full (arrival note p.replica) ≡ false → Got (record p { replica = and_turn (Delivers note) p.replica }) note
-delivered-got first number p note kept named sent free = by (is_turned_away (arrival note p.replica)) refl
+    is_turned_away (arrival note p.replica) ≡ false → Got (record p { replica = and_turn (Delivers note) p.replica }) note
+delivered-got first number p note kept named sent free =
+    subst (λ (b : Bool). Got (record p { replica = cond b r (Delivers note ∷ r) }) note) refused added
   where
     r : List ReplicaTurn
     r = p.replica
@@ -237,11 +216,8 @@ delivered-got first number p note kept named sent free = by (is_turned_away (arr
     ok : (now : Known) × (with_notes (taken_by (Delivers note) r) (known_by r) ≡ Goes now)
     ok = note-taken first p kept number note sent
 
-    Then : List ReplicaTurn → Type 0
-    Then turns = Got (record p { replica = turns }) note
-
-    refused : (b : Bool) → is_turned_away (arrival note r) ≡ b → (b || false) ≡ is_refused (Delivers note) r
-    refused b a = λ i. sym a i || is_no (sym ok.1 i)
+    refused : false ≡ is_refused (Delivers note) r
+    refused = λ i. sym free i || is_no (sym ok.1 i)
 
     added : Got (record p { replica = Delivers note ∷ r }) note
     added = record {
@@ -256,16 +232,6 @@ delivered-got first number p note kept named sent free = by (is_turned_away (arr
         other (Some name) f e =
             let less = named.before name note.name f e in
             ap (λ v. option_eq nat_eq v (Some note.name)) f ∙ ne_eqb name note.name (λ g. omega (arith, less, g))
-
-    by : (b : Bool) → is_turned_away (arrival note r) ≡ b → Got (record p { replica = and_turn (Delivers note) r }) note
-    by true a =
-        let unknown = unknown-parts note r (turned-unknown (arrival note r) a free) in
-        let same : Got (record p { replica = r }) note = record {
-          taken = λ e. absurd (true≢false (sym (is-accepted note r e) ∙ unknown.0));
-          early = λ e. absurd (true≢false (sym (waits-out first p kept note.name e) ∙ unknown.1));
-        } in
-        subst (λ (b : Bool). Got (record p { replica = cond b r (Delivers note ∷ r) }) note) (refused true a) same
-    by false a = subst (λ (b : Bool). Got (record p { replica = cond b r (Delivers note ∷ r) }) note) (refused false a) added
 
 -- ---- later turns leave it
 
@@ -307,12 +273,12 @@ keeps-got p then note k got = record {
 }
 
 reply-got : (first : ℕ) (p : Played) (note : Note) → Kept first p → Got p note → (o : HeldReply) → p.reply ≡ o →
-    Got (record { commands = p.commands; replica = after_reply o p.replica; reply = NoReply }) note
+    Got (record p { replica = after_reply o p.replica; reply = NoReply }) note
 reply-got first p note kept got NoReply e = record { taken = got.taken; early = λ f. absurd (cc) }
 reply-got first p note kept got Refusal e = record { taken = got.taken; early = λ f. absurd (cc) }
 reply-got first p note kept got (Named name) e =
     let ok = name-taken first p kept name e in
-    subst (λ (b : Bool). Got (record { commands = p.commands; replica = cond b p.replica (Accepts name ∷ p.replica); reply = NoReply }) note) (sym (ap is_no ok.1))
+    subst (λ (b : Bool). Got (record p { replica = cond b p.replica (Accepts name ∷ p.replica); reply = NoReply }) note) (sym (ap is_no ok.1))
     (record {
       taken = λ f.
           let same : name ≡ note.name = cc in
@@ -336,13 +302,14 @@ step-sent first now number records p note e Load = e
 step-sent first now number records p note e Read = e
 step-sent first now number records p note e Ask = e
 step-sent first now number records p note e (First other) = e
+step-sent first now number records p note e (Wrap other) = e
 step-sent first now number records p note e (At moment) =
     sent-append number (notes_of first p.commands) (sent_by first p.commands (notes_of first p.commands) (Ticks moment)) note e
-step-sent first now number records p note e Subscribe = by (has_room now p.commands (notes_of first p.commands))
+step-sent first now number records p note e Subscribe = by (has_room now p.commands)
   where
     by : (b : Bool) → let after : Played = cond b
-        (record { commands = grant_at now ∷ p.commands; replica = Requests ∷ p.replica; reply = Named (granted p.commands + 1) })
-        (record { commands = p.commands; replica = Requests ∷ p.replica; reply = Refusal }) in sent_note number (notes_of first after.commands) ≡ Some note
+        (record p { commands = grant_at now ∷ p.commands; replica = Requests ∷ p.replica; reply = Named (granted p.commands + 1) })
+        (record p { replica = Requests ∷ p.replica; reply = Refusal }) in sent_note number (notes_of first after.commands) ≡ Some note
     by true = sent-append number (notes_of first p.commands) (sent_by first p.commands (notes_of first p.commands) (grant_at now)) note e
     by false = e
 step-sent first now number records p note e Accept = e
@@ -352,18 +319,18 @@ step-sent first now number records p note e Renew = by (accepted p.replica)
     on name true = sent-append number (notes_of first p.commands) [] note e
     on name false = e
 
-    by : (o : Option ℕ) → sent_note number (notes_of first (with_renewal o first now p.commands)) ≡ Some note
+    by : (o : Option ℕ) → sent_note number (notes_of first (with_renewal o now p.commands)) ≡ Some note
     by None = e
-    by (Some name) = on name (lives name first now p.commands)
+    by (Some name) = on name (lives name now p.commands)
 step-sent first now number records p note e Unsubscribe = by (accepted p.replica)
   where
     on : (name : ℕ) (b : Bool) → sent_note number (notes_of first (cond b (Ends now name ∷ p.commands) p.commands)) ≡ Some note
     on name true = sent-append number (notes_of first p.commands) [] note e
     on name false = e
 
-    by : (o : Option ℕ) → sent_note number (notes_of first (given_up o first now p.commands)) ≡ Some note
+    by : (o : Option ℕ) → sent_note number (notes_of first (given_up o now p.commands)) ≡ Some note
     by None = e
-    by (Some name) = on name (lives name first now p.commands)
+    by (Some name) = on name (lives name now p.commands)
 step-sent first now number records p note e (Deliver other) = e
 step-sent first now number records p note e ReadFault = e
 
@@ -386,12 +353,13 @@ step-got first now number records p note kept e got Read =
     (asked-keeps (moment_after script_token first p.commands) p.replica (next_ask (known_by p.replica))) got
 step-got first now number records p note kept e got Ask = got
 step-got first now number records p note kept e got (First other) = got
+step-got first now number records p note kept e got (Wrap other) = record { taken = got.taken; early = got.early }
 step-got first now number records p note kept e got (At moment) = record { taken = got.taken; early = got.early }
-step-got first now number records p note kept e got Subscribe = by (has_room now p.commands (notes_of first p.commands))
+step-got first now number records p note kept e got Subscribe = by (has_room now p.commands)
   where
     by : (b : Bool) → Got (cond b
-        (record { commands = grant_at now ∷ p.commands; replica = Requests ∷ p.replica; reply = Named (granted p.commands + 1) })
-        (record { commands = p.commands; replica = Requests ∷ p.replica; reply = Refusal })) note
+        (record p { commands = grant_at now ∷ p.commands; replica = Requests ∷ p.replica; reply = Named (granted p.commands + 1) })
+        (record p { replica = Requests ∷ p.replica; reply = Refusal })) note
     by true = record {
       taken = got.taken;
       early = λ f. let same : granted p.commands + 1 ≡ note.name = cc in let known = known-note first number p.commands note e in absurd (omega (arith, same, known));
@@ -401,7 +369,8 @@ step-got first now number records p note kept e got Accept = reply-got first p n
 step-got first now number records p note kept e got Renew = record { taken = got.taken; early = got.early }
 step-got first now number records p note kept e got Unsubscribe = record { taken = got.taken; early = got.early }
 step-got first now number records p note kept e got (Deliver other) =
-    keeps-got p (after_note (sent_note other (notes_of first p.commands)) p.replica) note (noted-keeps (sent_note other (notes_of first p.commands)) p.replica) got
+    keeps-got p (after_note (reaching p.wrap p.replica (sent_note other (notes_of first p.commands))) p.replica) note
+    (noted-keeps (reaching p.wrap p.replica (sent_note other (notes_of first p.commands))) p.replica) got
 step-got first now number records p note kept e got ReadFault = got
 
 -- ---- all turns
@@ -423,19 +392,43 @@ later-sent (turn ∷ newer) number older note e =
     ap (λ (f : ℕ). sent_note number (notes_of f (played (turn ∷ turns)).commands)) (first-after turn newer (Deliver number) older)
     ∙ step-sent (first_of turns) (clock_of turns) number (records_since turns) (played turns) note (later-sent newer number older note e) turn
 
+-- an answer that is neither `full` nor `unknown` is that of a note which reached the replica as it was sent, and was not turned away
+lost-turned : (wrap : ℕ) (a : Arrival) → is_lost (arrival_by_seq wrap a) ≡ false → is_turned_away a ≡ false
+lost-turned wrap IsUnknown e = absurd (cc)
+lost-turned wrap IsRepeat e = refl
+lost-turned wrap (IsTooMany held) e = absurd (cc)
+lost-turned wrap IsEarly e = refl
+lost-turned wrap (IsHeld place) e = refl
+lost-turned wrap IsNext e = refl
+
+came-placed : (wrap : ℕ) (note : Note) (turns : List ReplicaTurn) → 256 ≤ wrap → is_recent wrap note turns ≡ true → is_lost (arrival_on_wire wrap (on_wire wrap note) turns) ≡ false →
+    (placed wrap (on_wire wrap note) turns ≡ Some note) × (is_turned_away (arrival note turns) ≡ false)
+came-placed wrap note turns low recent free = by (placed-or-unknown wrap note turns low recent)
+  where
+    by : (placed wrap (on_wire wrap note) turns ≡ Some note)
+        ⊎ ((arrival_on_wire wrap (on_wire wrap note) turns ≡ IsUnknown)
+        × ((other : Note) → placed wrap (on_wire wrap note) turns ≡ Some other → is_refused (Delivers other) turns ≡ true)) →
+        (placed wrap (on_wire wrap note) turns ≡ Some note) × (is_turned_away (arrival note turns) ≡ false)
+    by (inl own) = (own, lost-turned wrap (arrival note turns) (ap (λ (o : Option Note). is_lost (arrival_of wrap o turns)) (sym own) ∙ free))
+    by (inr away) = absurd (true≢false (sym (ap is_lost away.0) ∙ free))
+
 -- what was delivered, after further turns
 later-got : (newer : List ScriptTurn) (number : ℕ) (older : List ScriptTurn) (note : Note) → first_of (newer ++ Deliver number ∷ older) ≤ 4294967295 →
-    sent_note number (notes_of (first_of older) (played older).commands) ≡ Some note → is_full (arrival note (played older).replica) ≡ false →
+    AllStand (newer ++ Deliver number ∷ older) → sent_note number (notes_of (first_of older) (played older).commands) ≡ Some note →
+    is_lost (arrival_on_wire (played older).wrap (on_wire (played older).wrap note) (played older).replica) ≡ false →
     Got (played (newer ++ Deliver number ∷ older)) note
-later-got [] number older note low e free =
+later-got [] number older note low all e free =
     let older-low = low-older (Deliver number) older low in
-    subst (λ (o : Option Note). Got (record (played older) { replica = after_note o (played older).replica }) note) (sym e)
-    (delivered-got (first_of older) number (played older) note (turns-kept older older-low) (turns-named older older-low) e free)
-later-got (turn ∷ newer) number older note low e free =
+    let p : Played = played older in
+    let recent : is_recent p.wrap note p.replica ≡ true = ap (λ (o : Option Note). is_recent_one p.wrap o p.replica) (sym e) ∙ (and_parts _ _ all.0).1 in
+    let came = came-placed p.wrap note p.replica (wide older all.1) recent free in
+    subst (λ (o : Option Note). Got (record p { replica = after_note o p.replica }) note) (sym (ap (reaching p.wrap p.replica) e ∙ came.0))
+    (delivered-got (first_of older) number p note (turns-kept older older-low all.1) (turns-named older older-low all.1) e came.1)
+later-got (turn ∷ newer) number older note low all e free =
     let turns : List ScriptTurn = newer ++ Deliver number ∷ older in
     let rest : first_of turns ≤ 4294967295 = low-older turn turns low in
-    step-got (first_of turns) (clock_of turns) number (records_since turns) (played turns) note (turns-kept turns rest) (later-sent newer number older note e)
-    (later-got newer number older note rest e free) turn
+    step-got (first_of turns) (clock_of turns) number (records_since turns) (played turns) note (turns-kept turns rest all.1) (later-sent newer number older note e)
+    (later-got newer number older note rest all.1 e free) turn
 
 low-rest : (newer older : List ScriptTurn) → first_of (newer ++ older) ≤ 4294967295 → first_of older ≤ 4294967295
 low-rest [] older low = low
@@ -445,30 +438,31 @@ all-rest : (newer older : List ScriptTurn) → AllStand (newer ++ older) → All
 all-rest [] older all = all
 all-rest (turn ∷ newer) older all = all-rest newer older all.1
 
-seq-there : (note : Note) (notes : List Note) → Among note notes → has_seq notes note.seq ≡ true
+seq-there : (note : Note) (notes : List Note) → Among note notes → has_place notes note.place ≡ true
 seq-there note [] a = absurd a
 seq-there note (other ∷ notes) a = by a (λ b. seq-there note notes b)
   where
-    there : (b : Bool) → b ≡ true → (nat_eq other.seq note.seq || b) ≡ true
-    there b e = on (nat_eq other.seq note.seq)
+    there : (b : Bool) → b ≡ true → (nat_eq other.place note.place || b) ≡ true
+    there b e = on (nat_eq other.place note.place)
       where
         on : (c : Bool) → (c || b) ≡ true
         on true = refl
         on false = e
 
-    by : (note ≡ other) ⊎ Among note notes → (Among note notes → has_seq notes note.seq ≡ true) → (nat_eq other.seq note.seq || has_seq notes note.seq) ≡ true
-    by (inl e) later = ap (λ b. b || has_seq notes note.seq) (eq-eqb other.seq note.seq (ap (λ (n : Note). n.seq) (sym e)))
-    by (inr b) later = there (has_seq notes note.seq) (later b)
+    by : (note ≡ other) ⊎ Among note notes → (Among note notes → has_place notes note.place ≡ true) → (nat_eq other.place note.place || has_place notes note.place) ≡ true
+    by (inl e) later = ap (λ b. b || has_place notes note.place) (eq-eqb other.place note.place (ap (λ (n : Note). n.place) (sym e)))
+    by (inr b) later = there (has_place notes note.place) (later b)
 
 pub delivered-received : delivered_notes_are_received
 delivered-received turns name may named delivered =
-    sent-all (λ note. note.name ≡ name → has_seq (received (played turns).replica) note.seq ≡ true) (notes_of (first_of turns) (played turns).commands) one
+    sent-all (λ note. note.name ≡ name → has_place (received (played turns).replica) note.place ≡ true) (notes_of (first_of turns) (played turns).commands) one
   where
     one : (number : ℕ) (note : Note) → sent_note number (notes_of (first_of turns) (played turns).commands) ≡ Some note → note.name ≡ name →
-        has_seq (received (played turns).replica) note.seq ≡ true
+        has_place (received (played turns).replica) note.place ≡ true
     one number note sent is = seq-there note (received (played turns).replica) among
       where
-        d : (newer : List ScriptTurn) × (older : List ScriptTurn) × (turns ≡ newer ++ Deliver number ∷ older) × (is_full (arrival note (played older).replica) ≡ false)
+        d : (newer : List ScriptTurn) × (older : List ScriptTurn) × (turns ≡ newer ++ Deliver number ∷ older)
+            × (is_lost (arrival_on_wire (played older).wrap (on_wire (played older).wrap note) (played older).replica) ≡ false)
         d = delivered number note sent is
 
         low : first_of (d.0 ++ Deliver number ∷ d.1) ≤ 4294967295
@@ -477,8 +471,11 @@ delivered-received turns name may named delivered =
         low-before : first_of d.1 ≤ 4294967295
         low-before = low-older (Deliver number) d.1 (low-rest d.0 (Deliver number ∷ d.1) low)
 
+        all : AllStand (d.0 ++ Deliver number ∷ d.1)
+        all = subst AllStand d.2 may.stand
+
         stands : nat_lt 0 number && nat_le number (length (notes_of (first_of d.1) (played d.1).commands)) ≡ true
-        stands = (all-rest d.0 (Deliver number ∷ d.1) (subst AllStand d.2 may.stand)).0
+        stands = (and_parts _ _ (all-rest d.0 (Deliver number ∷ d.1) all).0).0
 
         there : (old : Note) × (sent_note number (notes_of (first_of d.1) (played d.1).commands) ≡ Some old)
         there =
@@ -492,7 +489,7 @@ delivered-received turns name may named delivered =
             sym (later-sent d.0 number d.1 there.0 there.1) ∙ ap (λ ts. sent_note number (notes_of (first_of ts) (played ts).commands)) (sym d.2) ∙ sent in cc
 
         got : Got (played (d.0 ++ Deliver number ∷ d.1)) note
-        got = later-got d.0 number d.1 note low (there.1 ∙ ap Some same) d.3
+        got = later-got d.0 number d.1 note low all (there.1 ∙ ap Some same) d.3
 
         among : Among note (received (played turns).replica)
         among =
@@ -538,12 +535,13 @@ step-quiet first now records p Load q e = absurd (cc)
 step-quiet first now records p Read q e = ap (λ o. next_ask (known_by (asked_at (moment_after script_token first p.commands) p.replica o))) e ∙ e
 step-quiet first now records p Ask q e = e
 step-quiet first now records p (First number) q e = e
+step-quiet first now records p (Wrap number) q e = e
 step-quiet first now records p (At moment) q e = e
-step-quiet first now records p Subscribe q e = by (has_room now p.commands (notes_of first p.commands))
+step-quiet first now records p Subscribe q e = by (has_room now p.commands)
   where
     by : (b : Bool) → let after : Played = cond b
-        (record { commands = grant_at now ∷ p.commands; replica = Requests ∷ p.replica; reply = Named (granted p.commands + 1) })
-        (record { commands = p.commands; replica = Requests ∷ p.replica; reply = Refusal }) in next_ask (known_by after.replica) ≡ None
+        (record p { commands = grant_at now ∷ p.commands; replica = Requests ∷ p.replica; reply = Named (granted p.commands + 1) })
+        (record p { replica = Requests ∷ p.replica; reply = Refusal }) in next_ask (known_by after.replica) ≡ None
     by true = e
     by false = e
 step-quiet first now records p Accept q e = absurd (cc)

@@ -17,9 +17,11 @@ use Rattle.cds_follow.specs.Inbox.{ReplicaTurn, Begins, Shows, Requests, Accepts
 use Rattle.cds_follow.specs.Follow.{is_refused, and_turn, known_by, next_ask}
 use Rattle.cds_follow.specs.Given.{moment_after, Entry, Starts, Asks, Calls, Granted, Denied, Gets, asked_at, given_by, latest_length, length_before_call, IsGiven}
 use Rattle.cds_script.specs.declared.turn.ScriptTurn.{ScriptTurn}
-use Rattle.cds_script.specs.declared.turn.ScriptTurn.TheVariants.{Folder, Track, Tag, Scan, Load, Read, Ask, First, At, Subscribe, Accept, Renew, Unsubscribe, Deliver, ReadFault}
-use Rattle.cds_script.specs.Report.{number_of, first_of, clock_of, records_since, Played, scanned, after_reply, after_note, sent_note, lives, given_up, with_renewal, play, played, script_token}
+use Rattle.cds_script.specs.declared.turn.ScriptTurn.TheVariants.{Folder, Track, Tag, Scan, Load, Read, Ask, First, Wrap, At, Subscribe, Accept, Renew, Unsubscribe, Deliver, ReadFault}
+use Rattle.cds_script.specs.Report.{number_of, first_of, clock_of, records_since, Played, scanned, after_reply, after_note, reaching, sent_note, lives, given_up, with_renewal, play, played, script_token}
 use Rattle.cds_script.specs.ScriptGiven.{scripts_are_given}
+use Rattle.cds_script.specs.Played.{AllStand}
+use Rattle.cds_script.proofs.Wrapped.{Reaches, next-reaches}
 use Rattle.cds_script.specs.declared.reply.HeldReply.{HeldReply}
 use Rattle.cds_script.specs.declared.reply.HeldReply.TheVariants.{NoReply, Named, Refusal}
 use Rattle.cds_script.specs.Script.{grant_at, granted_seconds}
@@ -230,9 +232,9 @@ read-kept first p kept = record {
       (out-asked (moment_after script_token first p.commands) p.replica (next_ask (known_by p.replica))) p.reply kept.waits;
 }
 
-note-kept : (first : ℕ) (p : Played) (o : Option Note) → ((note : Note) → o ≡ Some note → Contains (notes_of first p.commands) note) → Kept first p →
-    Kept first (record p { replica = after_note o p.replica })
-note-kept first p None sent kept = record {
+-- the same turns of the replica, under whichever wrap
+same-kept : (first wrap : ℕ) (p : Played) → Kept first p → Kept first (record p { wrap = wrap })
+same-kept first wrap p kept = record {
   accepted = kept.accepted;
   entries = kept.entries;
   given = kept.given;
@@ -240,17 +242,30 @@ note-kept first p None sent kept = record {
   within = kept.within;
   waits = kept.waits;
 }
-note-kept first p (Some note) sent kept = record {
+
+sent-kept : (first : ℕ) (p : Played) (note : Note) → Contains (notes_of first p.commands) note → Kept first p → Kept first (record p { replica = and_turn (Delivers note) p.replica })
+sent-kept first p note sent kept = record {
   accepted = kept.accepted;
   entries = Gets (length p.commands) note ∷ kept.entries;
-  given = (kept.within, subst (λ (cs : List Command). Contains (notes_of first cs) note) (sym (oldest-all p.commands)) (sent note refl), kept.given);
+  given = (kept.within, subst (λ (cs : List Command). Contains (notes_of first cs) note) (sym (oldest-all p.commands)) sent, kept.given);
   are = ap (and_turn (Delivers note)) kept.are;
   within = omega arith;
   waits = same-waits p.commands kept.entries (Gets (length p.commands) note ∷ kept.entries) p.replica (and_turn (Delivers note) p.replica) refl
       (out-and (Delivers note) p.replica refl) p.reply kept.waits;
 }
 
-refused-kept : (first : ℕ) (p : Played) → Kept first p → Kept first (record { commands = p.commands; replica = Requests ∷ p.replica; reply = Refusal })
+-- a note that reaches the replica was sent, or is refused
+note-kept : (first : ℕ) (p : Played) (o : Option Note) → ((note : Note) → o ≡ Some note → Contains (notes_of first p.commands) note ⊎ (is_refused (Delivers note) p.replica ≡ true)) →
+    Kept first p → Kept first (record p { replica = after_note o p.replica })
+note-kept first p None sent kept = same-kept first p.wrap p kept
+note-kept first p (Some note) sent kept = by (sent note refl)
+  where
+    by : Contains (notes_of first p.commands) note ⊎ (is_refused (Delivers note) p.replica ≡ true) → Kept first (record p { replica = and_turn (Delivers note) p.replica })
+    by (inl c) = sent-kept first p note c kept
+    by (inr refused) =
+        subst (λ (b : Bool). Kept first (record p { replica = cond b p.replica (Delivers note ∷ p.replica) })) (sym refused) (same-kept first p.wrap p kept)
+
+refused-kept : (first : ℕ) (p : Played) → Kept first p → Kept first (record p { replica = Requests ∷ p.replica; reply = Refusal })
 refused-kept first p kept = record {
   accepted = kept.accepted;
   entries = Calls (length p.commands) ∷ kept.entries;
@@ -261,7 +276,7 @@ refused-kept first p kept = record {
 }
 
 granted-kept : (first now : ℕ) (p : Played) → Kept first p →
-    Kept first (record { commands = grant_at now ∷ p.commands; replica = Requests ∷ p.replica; reply = Named (granted p.commands + 1) })
+    Kept first (record p { commands = grant_at now ∷ p.commands; replica = Requests ∷ p.replica; reply = Named (granted p.commands + 1) })
 granted-kept first now p kept =
     let a = kept.accepted in
     let stays = given-more first (grant_at now) p.commands kept.entries kept.given kept.within in
@@ -280,9 +295,10 @@ granted-kept first now p kept =
       );
     }
 
-accept-kept : (first : ℕ) (commands : List Command) (replica : List ReplicaTurn) (reply : HeldReply) →
-    Kept first (record { commands = commands; replica = replica; reply = reply }) → Kept first (record { commands = commands; replica = after_reply reply replica; reply = NoReply })
-accept-kept first commands replica NoReply kept = record {
+accept-kept : (first wrap : ℕ) (commands : List Command) (replica : List ReplicaTurn) (reply : HeldReply) →
+    Kept first (record { commands = commands; replica = replica; reply = reply; wrap = wrap }) →
+    Kept first (record { commands = commands; replica = after_reply reply replica; reply = NoReply; wrap = wrap })
+accept-kept first wrap commands replica NoReply kept = record {
   accepted = kept.accepted;
   entries = kept.entries;
   given = kept.given;
@@ -290,7 +306,7 @@ accept-kept first commands replica NoReply kept = record {
   within = kept.within;
   waits = tt;
 }
-accept-kept first commands replica Refusal kept = record {
+accept-kept first wrap commands replica Refusal kept = record {
   accepted = kept.accepted;
   entries = Denied (length commands) ∷ kept.entries;
   given = (kept.within, tt, kept.given);
@@ -298,7 +314,7 @@ accept-kept first commands replica Refusal kept = record {
   within = omega arith;
   waits = tt;
 }
-accept-kept first commands replica (Named name) kept = record {
+accept-kept first wrap commands replica (Named name) kept = record {
   accepted = kept.accepted;
   entries = Granted (length commands) name ∷ kept.entries;
   given = (
@@ -334,17 +350,17 @@ tick-kept : (first moment : ℕ) (p : Played) → Kept first p → Kept first (r
 tick-kept first moment p kept =
     let a = kept.accepted in more-command first p (Ticks moment) kept (record { libraries = a.libraries; few = a.few; numbers = a.numbers })
 
-given_up-kept : (first now : ℕ) (p : Played) (o : Option ℕ) → Kept first p → Kept first (record p { commands = given_up o first now p.commands })
+given_up-kept : (first now : ℕ) (p : Played) (o : Option ℕ) → Kept first p → Kept first (record p { commands = given_up o now p.commands })
 given_up-kept first now p None kept = same-commands first p p.commands refl kept
-given_up-kept first now p (Some name) kept = by (lives name first now p.commands)
+given_up-kept first now p (Some name) kept = by (lives name now p.commands)
   where
     by : (b : Bool) → Kept first (record p { commands = cond b (Ends now name ∷ p.commands) p.commands })
     by true = let a = kept.accepted in more-command first p (Ends now name) kept (record { libraries = a.libraries; few = a.few; numbers = a.numbers })
     by false = same-commands first p p.commands refl kept
 
-renewal-kept : (first now : ℕ) (p : Played) (o : Option ℕ) → Kept first p → Kept first (record p { commands = with_renewal o first now p.commands })
+renewal-kept : (first now : ℕ) (p : Played) (o : Option ℕ) → Kept first p → Kept first (record p { commands = with_renewal o now p.commands })
 renewal-kept first now p None kept = same-commands first p p.commands refl kept
-renewal-kept first now p (Some name) kept = by (lives name first now p.commands)
+renewal-kept first now p (Some name) kept = by (lives name now p.commands)
   where
     by : (b : Bool) → Kept first (record p { commands = cond b (Renews now name granted_seconds ∷ p.commands) p.commands })
     by true =
@@ -352,24 +368,25 @@ renewal-kept first now p (Some name) kept = by (lives name first now p.commands)
         more-command first p (Renews now name granted_seconds) kept (record { libraries = a.libraries; few = a.few; numbers = a.numbers })
     by false = same-commands first p p.commands refl kept
 
-step : (first now : ℕ) (records : List Record) (p : Played) → Kept first p → (turn : ScriptTurn) → Kept first (play first now records p turn)
-step first now records p kept (Folder path) = kept
-step first now records p kept (Track path info size) = kept
-step first now records p kept (Tag comment) = kept
-step first now records p kept Scan = scan-kept first records p kept
-step first now records p kept Load = load-kept first p kept
-step first now records p kept Read = read-kept first p kept
-step first now records p kept Ask = kept
-step first now records p kept (First number) = kept
-step first now records p kept (At moment) = tick-kept first moment p kept
-step first now records p kept Subscribe = by (has_room now p.commands (notes_of first p.commands))
+step : (first now : ℕ) (records : List Record) (p : Played) → Kept first p → (turn : ScriptTurn) → Reaches first p turn → Kept first (play first now records p turn)
+step first now records p kept (Folder path) reaches = kept
+step first now records p kept (Track path info size) reaches = kept
+step first now records p kept (Tag comment) reaches = kept
+step first now records p kept Scan reaches = scan-kept first records p kept
+step first now records p kept Load reaches = load-kept first p kept
+step first now records p kept Read reaches = read-kept first p kept
+step first now records p kept Ask reaches = kept
+step first now records p kept (First number) reaches = kept
+step first now records p kept (Wrap number) reaches = same-kept first number p kept
+step first now records p kept (At moment) reaches = tick-kept first moment p kept
+step first now records p kept Subscribe reaches = by (has_room now p.commands)
   where
     by : (b : Bool) → Kept first (cond b
-        (record { commands = grant_at now ∷ p.commands; replica = Requests ∷ p.replica; reply = Named (granted p.commands + 1) })
-        (record { commands = p.commands; replica = Requests ∷ p.replica; reply = Refusal }))
+        (record p { commands = grant_at now ∷ p.commands; replica = Requests ∷ p.replica; reply = Named (granted p.commands + 1) })
+        (record p { replica = Requests ∷ p.replica; reply = Refusal }))
     by true = granted-kept first now p kept
     by false = refused-kept first p kept
-step first now records p kept Accept = accept-kept first p.commands p.replica p.reply (record {
+step first now records p kept Accept reaches = accept-kept first p.wrap p.commands p.replica p.reply (record {
   accepted = kept.accepted;
   entries = kept.entries;
   given = kept.given;
@@ -377,11 +394,18 @@ step first now records p kept Accept = accept-kept first p.commands p.replica p.
   within = kept.within;
   waits = kept.waits;
 })
-step first now records p kept Renew = renewal-kept first now p (accepted p.replica) kept
-step first now records p kept Unsubscribe = given_up-kept first now p (accepted p.replica) kept
-step first now records p kept (Deliver note) =
-    note-kept first p (sent_note note (notes_of first p.commands)) (λ n e. sent-contained note (notes_of first p.commands) n e) kept
-step first now records p kept ReadFault = kept
+step first now records p kept Renew reaches = renewal-kept first now p (accepted p.replica) kept
+step first now records p kept Unsubscribe reaches = given_up-kept first now p (accepted p.replica) kept
+step first now records p kept (Deliver note) reaches =
+    note-kept first p (reaching p.wrap p.replica (sent_note note (notes_of first p.commands))) from kept
+  where
+    from : (n : Note) → reaching p.wrap p.replica (sent_note note (notes_of first p.commands)) ≡ Some n → Contains (notes_of first p.commands) n ⊎ (is_refused (Delivers n) p.replica ≡ true)
+    from n e = by (reaches n e)
+      where
+        by : (sent_note note (notes_of first p.commands) ≡ Some n) ⊎ (is_refused (Delivers n) p.replica ≡ true) → Contains (notes_of first p.commands) n ⊎ (is_refused (Delivers n) p.replica ≡ true)
+        by (inl sent) = inl (sent-contained note (notes_of first p.commands) n sent)
+        by (inr refused) = inr refused
+step first now records p kept ReadFault reaches = kept
 
 nothing-kept : (first : ℕ) → first ≤ 4294967295 → Kept first (played [])
 nothing-kept first low = record {
@@ -393,30 +417,32 @@ nothing-kept first low = record {
   waits = tt;
 }
 
-first-kept : (turn : ScriptTurn) → number_of turn ≤ 4294967295 → Kept (number_of turn) (play 0 0 [] (played []) turn)
-first-kept (First number) low = nothing-kept number low
-first-kept (Folder path) low = nothing-kept 0 low
-first-kept (Track path info size) low = nothing-kept 0 low
-first-kept (Tag comment) low = nothing-kept 0 low
-first-kept Scan low = step 0 0 [] (played []) (nothing-kept 0 low) Scan
-first-kept Load low = step 0 0 [] (played []) (nothing-kept 0 low) Load
-first-kept Read low = step 0 0 [] (played []) (nothing-kept 0 low) Read
-first-kept Ask low = nothing-kept 0 low
-first-kept (At moment) low = step 0 0 [] (played []) (nothing-kept 0 low) (At moment)
-first-kept Subscribe low = step 0 0 [] (played []) (nothing-kept 0 low) Subscribe
-first-kept Accept low = step 0 0 [] (played []) (nothing-kept 0 low) Accept
-first-kept Renew low = step 0 0 [] (played []) (nothing-kept 0 low) Renew
-first-kept Unsubscribe low = step 0 0 [] (played []) (nothing-kept 0 low) Unsubscribe
-first-kept (Deliver note) low = step 0 0 [] (played []) (nothing-kept 0 low) (Deliver note)
-first-kept ReadFault low = nothing-kept 0 low
+first-kept : (turn : ScriptTurn) → number_of turn ≤ 4294967295 → Reaches 0 (played []) turn → Kept (number_of turn) (play 0 0 [] (played []) turn)
+first-kept (First number) low reaches = nothing-kept number low
+first-kept (Folder path) low reaches = nothing-kept 0 low
+first-kept (Track path info size) low reaches = nothing-kept 0 low
+first-kept (Tag comment) low reaches = nothing-kept 0 low
+first-kept Scan low reaches = step 0 0 [] (played []) (nothing-kept 0 low) Scan reaches
+first-kept Load low reaches = step 0 0 [] (played []) (nothing-kept 0 low) Load reaches
+first-kept Read low reaches = step 0 0 [] (played []) (nothing-kept 0 low) Read reaches
+first-kept Ask low reaches = nothing-kept 0 low
+first-kept (Wrap number) low reaches = same-kept 0 number (played []) (nothing-kept 0 low)
+first-kept (At moment) low reaches = step 0 0 [] (played []) (nothing-kept 0 low) (At moment) reaches
+first-kept Subscribe low reaches = step 0 0 [] (played []) (nothing-kept 0 low) Subscribe reaches
+first-kept Accept low reaches = step 0 0 [] (played []) (nothing-kept 0 low) Accept reaches
+first-kept Renew low reaches = step 0 0 [] (played []) (nothing-kept 0 low) Renew reaches
+first-kept Unsubscribe low reaches = step 0 0 [] (played []) (nothing-kept 0 low) Unsubscribe reaches
+first-kept (Deliver note) low reaches = step 0 0 [] (played []) (nothing-kept 0 low) (Deliver note) reaches
+first-kept ReadFault low reaches = nothing-kept 0 low
 
-pub turns-kept : (turns : List ScriptTurn) → first_of turns ≤ 4294967295 → Kept (first_of turns) (played turns)
-turns-kept [] low = nothing-kept 0 low
-turns-kept (turn ∷ []) low = first-kept turn low
-turns-kept (turn ∷ next ∷ older) low =
-    step (first_of (next ∷ older)) (clock_of (next ∷ older)) (records_since (next ∷ older)) (played (next ∷ older)) (turns-kept (next ∷ older) low) turn
+pub turns-kept : (turns : List ScriptTurn) → first_of turns ≤ 4294967295 → AllStand turns → Kept (first_of turns) (played turns)
+turns-kept [] low all = nothing-kept 0 low
+turns-kept (turn ∷ []) low all = first-kept turn low (next-reaches turn [] all)
+turns-kept (turn ∷ next ∷ older) low all =
+    step (first_of (next ∷ older)) (clock_of (next ∷ older)) (records_since (next ∷ older)) (played (next ∷ older)) (turns-kept (next ∷ older) low all.1) turn
+    (next-reaches turn (next ∷ older) all)
 
 pub scripts-given : scripts_are_given
 scripts-given turns may =
-    let kept = turns-kept turns may.number in
+    let kept = turns-kept turns may.number may.stand in
     record { accepted = kept.accepted; entries = kept.entries; given = kept.given; are = kept.are; within = kept.within }

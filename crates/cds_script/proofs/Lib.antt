@@ -6,6 +6,8 @@ pub mod Lines
 pub mod Living
 pub mod MayBe
 pub mod Played
+pub mod Recent
 pub mod Stood
 pub mod Words
 pub mod WordLaws
+pub mod Wrapped

@@ -11,12 +11,12 @@ use Rattle.cds_object.specs.declared.info.FlacInfo.{FlacInfo}
 use Rattle.cds_object.specs.Content.{same_text}
 use Rattle.cds_script.specs.Lines.{words_of}
 use Rattle.cds_script.specs.Word.{words_said}
-use Rattle.cds_script.specs.Script.{number_from_to, info_from, path_said, folder_turn, track_turn, plain_turn, moment_limit, first_turn, at_turn, deliver_turn, number_turn, folder_line, track_line, tag_line, plain_line, turn_of, meaning_of_turn, meaning_of_said, meaning_of_words, meaning_of, IsInfoInRange, IsInRange, MeansInRange, lines_mean_in_range}
+use Rattle.cds_script.specs.Script.{number_from_to, info_from, path_said, folder_turn, track_turn, plain_turn, moment_limit, first_turn, wrap_turn, at_turn, deliver_turn, number_turn, folder_line, track_line, tag_line, plain_line, turn_of, meaning_of_turn, meaning_of_said, meaning_of_words, meaning_of, IsInfoInRange, IsInRange, MeansInRange, lines_mean_in_range}
 use Rattle.cds_script.specs.Played.{script_lines, turn_in, is_within, is_answered, and_meant, answered_lines, AllStand, script_turns_may_be}
 use Rattle.cds_script.specs.declared.turn.Meaning.{Meaning}
 use Rattle.cds_script.specs.declared.turn.Meaning.TheVariants.{Nothing, Means, Outside}
 use Rattle.cds_script.specs.declared.turn.ScriptTurn.{ScriptTurn}
-use Rattle.cds_script.specs.declared.turn.ScriptTurn.TheVariants.{Folder, Track, Tag, Scan, Load, Read, Ask, First, At, Subscribe, Accept, Renew, Unsubscribe, Deliver, ReadFault}
+use Rattle.cds_script.specs.declared.turn.ScriptTurn.TheVariants.{Folder, Track, Tag, Scan, Load, Read, Ask, First, Wrap, At, Subscribe, Accept, Renew, Unsubscribe, Deliver, ReadFault}
 use Rattle.cds_script.specs.Report.{number_of, first_of, may_stand}
 use Rattle.cds_script.proofs.Played.{turns_in}
 use Rattle.cds_object.specs.ContentOf.{bare_info}
@@ -46,6 +46,7 @@ low-number Load f = omega arith
 low-number Read f = omega arith
 low-number Ask f = omega arith
 low-number (First number) f = f
+low-number (Wrap number) f = omega arith
 low-number (At moment) f = omega arith
 low-number Subscribe f = omega arith
 low-number Accept f = omega arith
@@ -61,6 +62,10 @@ cond-fine false x y fx fy = fy
 first-fine : (o : Option ℕ) → ((n : ℕ) → o ≡ Some n → n < 2 ^ 32) → Fine (first_turn o)
 first-fine None h = tt
 first-fine (Some n) h = let l : n < 4294967296 = h n refl in omega (arith, l)
+
+wrap-fine : (o : Option ℕ) → ((n : ℕ) → o ≡ Some n → n < 2 ^ 32) → Fine (wrap_turn o)
+wrap-fine None h = tt
+wrap-fine (Some n) h = let l : n < 4294967296 = h n refl in omega (arith, l)
 
 at-fine : (o : Option ℕ) → ((n : ℕ) → o ≡ Some n → n < moment_limit) → Fine (at_turn o)
 at-fine None h = tt
@@ -136,7 +141,8 @@ number-fine : (word number : List ℕ) → Fine (number_turn word number)
 number-fine word number =
     cond-fine (same_text word (codes "first")) _ _ (first-fine (plain_below (2 ^ 32) number) (below-limit (2 ^ 32) number))
     (cond-fine (same_text word (codes "at")) _ _ (at-fine (plain_below moment_limit number) (below-limit moment_limit number))
-    (cond-fine (same_text word (codes "deliver")) _ _ (deliver-fine (plain_below (2 ^ 32) number)) tt))
+    (cond-fine (same_text word (codes "deliver")) _ _ (deliver-fine (plain_below (2 ^ 32) number))
+    (cond-fine (same_text word (codes "wrap")) _ _ (wrap-fine (plain_below (2 ^ 32) number) (below-limit (2 ^ 32) number)) tt)))
 
 plain-fine : (word : List ℕ) → Fine (plain_turn word)
 plain-fine word =

@@ -17,10 +17,11 @@ use Rattle.cds_commands.specs.Commands.{Command, scans_of, oldest}
 use Rattle.cds_commands.specs.Notes.{Note, notes_of, alive_names}
 use Rattle.cds_commands.specs.Subscriptions.{granted}
 use Rattle.cds_commands.specs.Releases.{released_to, releases_of}
-use Rattle.cds_follow.specs.Inbox.{ReplicaTurn, Accepts, Delivers, is_out, accepted, received, has_seq, taken_by}
+use Rattle.cds_follow.specs.Inbox.{ReplicaTurn, Accepts, Delivers, is_out, accepted, received, has_place, taken_by}
 use Rattle.cds_follow.specs.Follow.{Known, known_by, next_ask, with_reply, with_notes, says, copied}
 use Rattle.cds_follow.specs.Given.{moment_after, Asks, Granted, Gets, asked_at, given_by, latest_length}
 use Rattle.cds_follow.specs.HonestLaws.{load_was_begun}
+use Rattle.cds_follow.specs.Wire.{says_by_seq}
 use Rattle.cds_follow.specs.declared.says.Says.{Says}
 use Rattle.cds_follow.specs.declared.says.Says.TheVariants.{Gap, BehindLoad, BehindRead, BehindVersion, Stands}
 use Rattle.cds_commands.proofs.Scanned.{scans-first, dropped-grows}
@@ -94,7 +95,7 @@ name-taken first p kept name held =
 
 pub turns-taken : nothing_is_refused
 turns-taken turns may =
-    let kept = turns-kept turns may.number in
+    let kept = turns-kept turns may.number may.stand in
     record {
       reads = read-taken (first_of turns) (played turns) kept;
       names = name-taken (first_of turns) (played turns) kept;
@@ -131,10 +132,10 @@ pub stands-at : (turns : List ScriptTurn) → MayBe turns → (number : ℕ) →
     IsScanEnd (history_of turns) number (copied (known_by (played turns).replica))
     × (written_by turns Ask ≡ codes "stands " ++ decimal number ++ codes "\n" ++ full_text (copied (known_by (played turns).replica)))
 stands-at turns may number stands =
-    let kept = turns-kept turns may.number in
+    let kept = turns-kept turns may.number may.stand in
     let end = scan-end (first_of turns) (played turns) kept number stands in (
       end,
-      ap (answer_text (history_of turns)) stands
+      ap (λ answer. answer_text (history_of turns) (says_by_seq (played turns).wrap answer)) stands
           ∙ ap (λ rows. codes "stands " ++ decimal number ++ codes "\n" ++ full_text rows)
           (end-catalog (history_of turns) number (copied (known_by (played turns).replica)) kept.accepted.libraries end),
     )
@@ -145,17 +146,17 @@ letter_at k [] = 0
 letter_at zero (b ∷ bytes) = b
 letter_at (suc k) (b ∷ bytes) = letter_at k bytes
 
-stands-written : (history : History) (answer : Says) (rest : List ℕ) → answer_text history answer ≡ codes "stands " ++ rest → (number : ℕ) × (answer ≡ Stands number)
+stands-written : (history : History) (wrap : ℕ) (answer : Says) (rest : List ℕ) → answer_text history (says_by_seq wrap answer) ≡ codes "stands " ++ rest → (number : ℕ) × (answer ≡ Stands number)
 unfolding letter_at
-stands-written history (Gap seq) rest e = let letter : 103 ≡ 115 = ap (letter_at 0) e in absurd (omega (arith, letter))
-stands-written history BehindLoad rest e = let letter : 98 ≡ 115 = ap (letter_at 0) e in absurd (omega (arith, letter))
-stands-written history (BehindRead id) rest e = let letter : 98 ≡ 115 = ap (letter_at 0) e in absurd (omega (arith, letter))
-stands-written history (BehindVersion number) rest e = let letter : 98 ≡ 115 = ap (letter_at 0) e in absurd (omega (arith, letter))
-stands-written history (Stands number) rest e = (number, refl)
+stands-written history wrap (Gap place) rest e = let letter : 103 ≡ 115 = ap (letter_at 0) e in absurd (omega (arith, letter))
+stands-written history wrap BehindLoad rest e = let letter : 98 ≡ 115 = ap (letter_at 0) e in absurd (omega (arith, letter))
+stands-written history wrap (BehindRead id) rest e = let letter : 98 ≡ 115 = ap (letter_at 0) e in absurd (omega (arith, letter))
+stands-written history wrap (BehindVersion number) rest e = let letter : 98 ≡ 115 = ap (letter_at 0) e in absurd (omega (arith, letter))
+stands-written history wrap (Stands number) rest e = (number, refl)
 
 pub turns-stand : all_turns_stand_at_scan_ends
 turns-stand turns may newer older rest parts wrote =
-    let stands = stands-written (history_of older) (says (played older).replica) rest wrote in
+    let stands = stands-written (history_of older) (played older).wrap (says (played older).replica) rest wrote in
     let at = stands-at older (may-before_ask newer older turns parts may) stands.0 stands.1 in (stands.0, stands.1, at.0, at.1)
 
 -- ---- the answer is complete
@@ -170,15 +171,15 @@ any-contained name (other ∷ names) e = by (nat_eq other name) refl e (λ f. an
     by false same f later = let there = later f in let low = there.1 in (suc there.0, omega (arith, low), there.2)
 
 stands-complete : (first now name : ℕ) (p : Played) → Kept first p → load_was_begun p.replica ≡ true → accepted p.replica ≡ Some name →
-    lives name first now p.commands ≡ true →
-    AllByRecursion (λ (note : Note). note.name ≡ name → has_seq (received p.replica) note.seq ≡ true) (notes_of first p.commands) →
+    lives name now p.commands ≡ true →
+    AllByRecursion (λ (note : Note). note.name ≡ name → has_place (received p.replica) note.place ≡ true) (notes_of first p.commands) →
     released_to first (releases_of first p.commands) ≡ end_of (scans_of first p.commands) → next_ask (known_by p.replica) ≡ None →
     says p.replica ≡ Stands (end_of (scans_of first p.commands))
 stands-complete first now name p kept begun named alive all released nothing =
     ap says are
     ∙ answers-complete script_token first p.commands (Asks (length p.commands)) kept.entries name now kept.accepted (kept.within, tt, kept.given)
-    (ap load_was_begun (sym are) ∙ begun) (ap accepted (sym are) ∙ named) (any-contained name (alive_names now p.commands (notes_of first p.commands)) alive)
-    (subst (λ (turns : List ReplicaTurn). AllByRecursion (λ (note : Note). note.name ≡ name → has_seq (received turns) note.seq ≡ true) (notes_of first p.commands)) are all)
+    (ap load_was_begun (sym are) ∙ begun) (ap accepted (sym are) ∙ named) (any-contained name (alive_names now p.commands) alive)
+    (subst (λ (turns : List ReplicaTurn). AllByRecursion (λ (note : Note). note.name ≡ name → has_place (received turns) note.place ≡ true) (notes_of first p.commands)) are all)
     released (ap (λ turns. next_ask (known_by turns)) (sym are) ∙ nothing)
   where
     are : p.replica ≡ given_by script_token first p.commands (Asks (length p.commands) ∷ kept.entries)
@@ -188,10 +189,10 @@ stands-complete first now name p kept begun named alive all released nothing =
 
 pub answers-are_complete : answers_are_complete
 answers-are_complete turns name may complete =
-    let kept = turns-kept turns may.number in
+    let kept = turns-kept turns may.number may.stand in
     let stands = stands-complete (first_of turns) (clock_of turns) name (played turns) kept complete.begun complete.named complete.alive complete.all complete.released complete.nothing in (
       stands,
-      ap (answer_text (history_of turns)) stands
+      ap (λ answer. answer_text (history_of turns) (says_by_seq (played turns).wrap answer)) stands
           ∙ ap (λ rows. codes "stands " ++ decimal (end_of (history_of turns)) ++ codes "\n" ++ full_text rows)
           (catalog_at_end (history_of turns).first [] (history_of turns).maps kept.accepted.libraries),
     )

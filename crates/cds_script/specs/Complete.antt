@@ -8,30 +8,34 @@ use Rattle.cds_catalog.specs.History.{end_of}
 use Rattle.cds_catalog.specs.Catalog.{catalog}
 use Rattle.cds_commands.specs.Notes.{Note, notes_of}
 use Rattle.cds_commands.specs.Releases.{released_to, releases_of}
-use Rattle.cds_follow.specs.Inbox.{Arrival, IsTooMany, accepted, received, has_seq, arrival}
+use Rattle.cds_follow.specs.Inbox.{Arrival, IsUnknown, IsTooMany, accepted, received, has_place}
 use Rattle.cds_follow.specs.Follow.{known_by, next_ask}
 use Rattle.cds_follow.specs.HonestLaws.{load_was_begun}
+use Rattle.cds_commands.specs.Wire.{on_wire}
+use Rattle.cds_follow.specs.Wire.{arrival_on_wire}
 use Rattle.cds_script.specs.declared.turn.ScriptTurn.{ScriptTurn}
 use Rattle.cds_script.specs.declared.turn.ScriptTurn.TheVariants.{Load, Read, Ask, Accept, Deliver}
 use Rattle.cds_script.specs.Report.{first_of, clock_of, sent_note, lives, played, history_of, written_by}
 use Rattle.cds_script.specs.Played.{script_turns, MayBe}
 use Rattle.cds_script.specs.Examples.{times}
 
--- whether a delivery is answered `full`
-abbrev pub is_full : Arrival → Bool
-is_full (IsTooMany held) = true
-is_full arrival = false
+-- whether a delivery is answered `full` or `unknown`
+abbrev pub is_lost : Arrival → Bool
+is_lost IsUnknown = true
+is_lost (IsTooMany held) = true
+is_lost arrival = false
 
--- each note that was sent to a name was delivered, at least once so that the answer was not `full`
+-- each note that was sent to a name was delivered, at least once so that the answer was neither `full` nor `unknown`
 abbrev pub WereDelivered : List ScriptTurn → ℕ → Type 0
 WereDelivered turns name = (number : ℕ) (note : Note) →
     sent_note number (notes_of (first_of turns) (played turns).commands) ≡ Some note → note.name ≡ name →
-    (newer : List ScriptTurn) × (older : List ScriptTurn) × (turns ≡ newer ++ Deliver number ∷ older) × (is_full (arrival note (played older).replica) ≡ false)
+    (newer : List ScriptTurn) × (older : List ScriptTurn) × (turns ≡ newer ++ Deliver number ∷ older)
+    × (is_lost (arrival_on_wire (played older).wrap (on_wire (played older).wrap note) (played older).replica) ≡ false)
 
 -- what was sent to the name that was accepted last and was delivered is received
 abbrev pub delivered_notes_are_received : Type 0
 delivered_notes_are_received = (turns : List ScriptTurn) (name : ℕ) → MayBe turns → accepted (played turns).replica ≡ Some name → WereDelivered turns name →
-    AllByRecursion (λ (note : Note). note.name ≡ name → has_seq (received (played turns).replica) note.seq ≡ true)
+    AllByRecursion (λ (note : Note). note.name ≡ name → has_place (received (played turns).replica) note.place ≡ true)
     (notes_of (first_of turns) (played turns).commands)
 
 -- whether nothing stays to be read after a turn, if nothing was before it: the turn begins no load, and takes no note
@@ -50,7 +54,7 @@ nothing_is_to_be_read = (newer older : List ScriptTurn) → written_by older Rea
 pub record IsDelivered (turns : List ScriptTurn) (name : ℕ) : Type 0 where
   pub begun : load_was_begun (played turns).replica ≡ true
   pub named : accepted (played turns).replica ≡ Some name
-  pub alive : lives name (first_of turns) (clock_of turns) (played turns).commands ≡ true
+  pub alive : lives name (clock_of turns) (played turns).commands ≡ true
   pub delivered : WereDelivered turns name
   pub released : released_to (first_of turns) (releases_of (first_of turns) (played turns).commands) ≡ end_of (history_of turns)
   pub newer : List ScriptTurn

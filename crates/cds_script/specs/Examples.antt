@@ -101,6 +101,19 @@ first_number_first =
     × Leaves (codes "first 1\nfirst 1\n") 1 (codes "error line 2\n")
     × Leaves (codes "first 4294967296\n") 1 (codes "error line 1\n")
 
+-- the wrap comes once, before all else that does something but the first number. It is at least 256
+abbrev pub wrap_first : Type 0
+wrap_first =
+    Leaves (codes "wrap 256\nscan\n") 0 (codes "scan 0\n")
+    × Leaves (codes "first 7\n# a comment\nwrap 256\nscan\n") 0 (codes "scan 7\n")
+    × Leaves (codes "wrap 256\nsubscribe\naccept\ndeliver 1\n") 0 (codes "note 1 seq 0 at 0\naccept 200\ndeliver 1 took\n")
+    × Leaves (codes "wrap 255\n") 1 (codes "error line 1\n")
+    × Leaves (codes "wrap 4294967295\n") 0 []
+    × Leaves (codes "wrap 4294967296\n") 1 (codes "error line 1\n")
+    × Leaves (codes "wrap 256\nwrap 256\n") 1 (codes "error line 2\n")
+    × Leaves (codes "wrap 256\nfirst 1\n") 1 (codes "error line 2\n")
+    × Leaves (codes "ask\nwrap 256\n") 1 (codes "behind load\nerror line 2\n")
+
 -- a line that is outside the grammar ends the script, by its number; empty lines and comments count
 abbrev pub broken_line : Type 0
 broken_line = Leaves (codes "# a comment\n\nask\nfolder ../x\nask\n") 1 (codes "behind load\nerror line 4\n")

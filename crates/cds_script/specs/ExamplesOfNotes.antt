@@ -87,7 +87,7 @@ accepted_commands = (played (script_turns three_scans)).commands
 abbrev pub releases_tell : Type 0
 releases_tell =
     (sent_note 3 (notes_of 0 accepted_commands)
-    ≡ Some (record { name = 1; seq = 2; number = 3; events = ObjAdd 2 2 false 0 IsTrack ∷ ObjAdd 3 3 false 0 IsTrack ∷ [] }))
+    ≡ Some (record { name = 1; place = 2; number = 3; events = ObjAdd 2 2 false 0 IsTrack ∷ ObjAdd 3 3 false 0 IsTrack ∷ [] }))
     × (map (released_containers (scans_of 0 accepted_commands)) (releases_of 0 accepted_commands) ≡ ((0, 3) ∷ []) ∷ ((0, 1) ∷ []) ∷ [])
 
 -- a first note above the position drops the copy and begins a load
@@ -168,7 +168,7 @@ first_note_while_loading = Leaves
 -- the note of a SEQ, each of which tells one more track; and a replica with a copy of an empty library that took the first note.
 -- Then it got this many notes from SEQ 2 on
 abbrev pub note_at : ℕ → Note
-note_at seq = record { name = 1; seq = seq; number = seq; events = ObjAdd seq seq false 0 IsTrack ∷ [] }
+note_at seq = record { name = 1; place = seq; number = seq; events = ObjAdd seq seq false 0 IsTrack ∷ [] }
 
 abbrev pub came : ℕ → List ReplicaTurn
 came zero = given_by script_token 0 (grant_at 0 ∷ []) loaded

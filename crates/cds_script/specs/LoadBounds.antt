@@ -17,7 +17,7 @@ use Rattle.cds_script.specs.declared.reply.HeldReply.{HeldReply}
 use Rattle.cds_script.specs.declared.reply.HeldReply.TheVariants.{Named}
 use Rattle.cds_script.specs.declared.turn.ScriptTurn.{ScriptTurn}
 use Rattle.cds_script.specs.declared.turn.ScriptTurn.TheVariants.{Scan, Load, Read, Ask, Accept, Deliver}
-use Rattle.cds_script.specs.Report.{first_of, records_since, Played, scanned, sent_note, played, history_of, written_by}
+use Rattle.cds_script.specs.Report.{first_of, records_since, Played, scanned, reaching, sent_note, played, history_of, written_by}
 use Rattle.cds_script.specs.Played.{MayBe}
 
 -- one more read was answered, if something was asked
@@ -46,7 +46,8 @@ answered_after first records p n Scan =
 answered_after first records p n Load = 0
 answered_after first records p n Read = answered (next_ask (known_by p.replica)) n
 answered_after first records p n Accept = cond (reply_drops p.reply p.replica) 0 n
-answered_after first records p n (Deliver note) = cond (note_drops (sent_note note (notes_of first p.commands)) p.replica) 0 n
+answered_after first records p n (Deliver note) =
+    cond (note_drops (reaching p.wrap p.replica (sent_note note (notes_of first p.commands))) p.replica) 0 n
 answered_after first records p n turn = n
 
 abbrev pub answered_since : List ScriptTurn → ℕ

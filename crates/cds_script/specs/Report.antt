@@ -1,7 +1,7 @@
 -- The report of a script: what its turns write, by the commands that the server accepted and by the replica's turns (this
 -- project's profile).
 use Rattle.std.specs.Prelude.{◌+◌, ◌-◌, ℕ, Bool, true, false, cond, nat_eq, nat_lt, nat_le, ◌&&◌, List, [], ◌∷◌, ◌++◌, map, length, take, Option, Some, None, slice_get, codes}
-use Rattle.std.specs.List.{list_any}
+use Rattle.std.specs.List.{list_all, list_any}
 use Rattle.std.specs.Fmt.{decimal}
 use Rattle.cds_object.specs.declared.info.Comment.{Comment}
 use Rattle.cds_object.specs.Path.{name_of}
@@ -19,10 +19,13 @@ use Rattle.cds_load.specs.declared.exchange.Shown.{Shown}
 use Rattle.cds_load.specs.declared.exchange.Shown.TheVariants.{Text, Number, Page, Fault}
 use Rattle.cds_commands.specs.Commands.{Command, Scans, Renews, Ends, Ticks, scans_of}
 use Rattle.cds_commands.specs.Notes.{Note, alive_names, has_room, notes_of, sent_by}
+use Rattle.cds_commands.specs.Places.{seq_at, last_seq}
 use Rattle.cds_commands.specs.Subscriptions.{granted}
-use Rattle.cds_follow.specs.Inbox.{ReplicaTurn, Begins, Requests, Accepts, Refuses, Delivers, Arrival, IsUnknown, IsRepeat, IsTooMany, IsEarly, IsHeld, IsNext, accepted, arrival}
-use Rattle.cds_follow.specs.Follow.{known_by, next_ask, says, and_turn}
+use Rattle.cds_follow.specs.Inbox.{ReplicaTurn, Begins, Requests, Accepts, Refuses, Arrival, IsUnknown, IsRepeat, IsTooMany, IsEarly, IsHeld, IsNext, accepted}
+use Rattle.cds_follow.specs.Follow.{known_by, next_ask, and_turn}
 use Rattle.cds_follow.specs.Given.{moment_after, asked_at}
+use Rattle.cds_commands.specs.Wire.{on_wire}
+use Rattle.cds_follow.specs.Wire.{placed, and_note, says_on_wire, arrival_on_wire, is_recent}
 use Rattle.cds_follow.specs.declared.says.Says.{Says}
 use Rattle.cds_follow.specs.declared.says.Says.TheVariants.{Gap, BehindLoad, BehindRead, BehindVersion, Stands}
 use Rattle.cds_script.specs.FoundFile.{with_comment, track_record}
@@ -34,7 +37,7 @@ use Rattle.cds_script.specs.declared.reply.HeldReply.TheVariants.{NoReply, Named
 use Rattle.cds_script.specs.declared.turn.Meaning.{Meaning}
 use Rattle.cds_script.specs.declared.turn.Meaning.TheVariants.{Nothing, Means, Outside}
 use Rattle.cds_script.specs.declared.turn.ScriptTurn.{ScriptTurn}
-use Rattle.cds_script.specs.declared.turn.ScriptTurn.TheVariants.{Folder, Track, Tag, Scan, Load, Read, Ask, First, At, Subscribe, Accept, Renew, Unsubscribe, Deliver, ReadFault}
+use Rattle.cds_script.specs.declared.turn.ScriptTurn.TheVariants.{Folder, Track, Tag, Scan, Load, Read, Ask, First, Wrap, At, Subscribe, Accept, Renew, Unsubscribe, Deliver, ReadFault}
 
 -- a comment put to the last thing that was found, if it is a file
 abbrev pub commented : Comment → Found → Found
@@ -84,11 +87,13 @@ clock_of [] = 0
 clock_of (At moment ∷ older) = moment
 clock_of (turn ∷ older) = clock_of older
 
--- what turns led to: the commands that the server accepted, the replica's turns, and the reply that is held back
+-- what turns led to: the commands that the server accepted, the replica's turns, the reply that is held back, and the SEQ after
+-- which comes SEQ 1
 pub record Played : Type 0 where
   pub commands : List Command
   pub replica : List ReplicaTurn
   pub reply : HeldReply
+  pub wrap : ℕ
 
 -- the commands after a scan, which a refusal leaves as they were
 abbrev pub scanned : ScanAnswer → List Record → List Command → List Command
@@ -105,26 +110,30 @@ after_reply Refusal turns = Refuses ∷ turns
 
 -- after a note, if there is one, reached the replica
 abbrev pub after_note : Option Note → List ReplicaTurn → List ReplicaTurn
-after_note None turns = turns
-after_note (Some note) turns = and_turn (Delivers note) turns
+after_note = and_note
+
+-- a note as it reaches the replica: on the wire it has a SEQ alone, by which the replica gives it a place
+abbrev pub reaching : ℕ → List ReplicaTurn → Option Note → Option Note
+reaching wrap turns None = None
+reaching wrap turns (Some note) = placed wrap (on_wire wrap note) turns
 
 -- the note of a number among all that were sent, counted from 1
 abbrev pub sent_note : ℕ → List Note → Option Note
 sent_note number notes = cond (nat_eq number 0) None (slice_get notes (number - 1))
 
--- whether the subscription of a name lives at a moment, after commands from a first number on
-abbrev pub lives : ℕ → ℕ → ℕ → List Command → Bool
-lives name first now commands = list_any (λ other. nat_eq other name) (alive_names now commands (notes_of first commands))
+-- whether the subscription of a name lives at a moment, after commands
+abbrev pub lives : ℕ → ℕ → List Command → Bool
+lives name now commands = list_any (λ other. nat_eq other name) (alive_names now commands)
 
 -- the commands after the subscription of a name was given up, if there is one and it lives
-abbrev pub given_up : Option ℕ → ℕ → ℕ → List Command → List Command
-given_up None first now commands = commands
-given_up (Some name) first now commands = cond (lives name first now commands) (Ends now name ∷ commands) commands
+abbrev pub given_up : Option ℕ → ℕ → List Command → List Command
+given_up None now commands = commands
+given_up (Some name) now commands = cond (lives name now commands) (Ends now name ∷ commands) commands
 
 -- the commands after the subscription of a name was renewed at a moment, if there is one and it lives then: its time begins anew
-abbrev pub with_renewal : Option ℕ → ℕ → ℕ → List Command → List Command
-with_renewal None first now commands = commands
-with_renewal (Some name) first now commands = cond (lives name first now commands) (Renews now name granted_seconds ∷ commands) commands
+abbrev pub with_renewal : Option ℕ → ℕ → List Command → List Command
+with_renewal None now commands = commands
+with_renewal (Some name) now commands = cond (lives name now commands) (Renews now name granted_seconds ∷ commands) commands
 
 -- the reset token of a script's server
 abbrev pub script_token : List ℕ
@@ -140,19 +149,21 @@ play first now records p Load = record p { replica = Begins ∷ p.replica }
 play first now records p Read = record p { replica = asked_at (moment_after script_token first p.commands) p.replica (next_ask (known_by p.replica)) }
 play first now records p Ask = p
 play first now records p (First number) = p
+play first now records p (Wrap number) = record p { wrap = number }
 play first now records p (At moment) = record p { commands = Ticks moment ∷ p.commands }
 play first now records p Subscribe =
-    cond (has_room now p.commands (notes_of first p.commands))
-    (record { commands = grant_at now ∷ p.commands; replica = Requests ∷ p.replica; reply = Named (granted p.commands + 1) })
-    (record { commands = p.commands; replica = Requests ∷ p.replica; reply = Refusal })
-play first now records p Accept = record { commands = p.commands; replica = after_reply p.reply p.replica; reply = NoReply }
-play first now records p Renew = record p { commands = with_renewal (accepted p.replica) first now p.commands }
-play first now records p Unsubscribe = record p { commands = given_up (accepted p.replica) first now p.commands }
-play first now records p (Deliver note) = record p { replica = after_note (sent_note note (notes_of first p.commands)) p.replica }
+    cond (has_room now p.commands)
+    (record p { commands = grant_at now ∷ p.commands; replica = Requests ∷ p.replica; reply = Named (granted p.commands + 1) })
+    (record p { replica = Requests ∷ p.replica; reply = Refusal })
+play first now records p Accept = record p { replica = after_reply p.reply p.replica; reply = NoReply }
+play first now records p Renew = record p { commands = with_renewal (accepted p.replica) now p.commands }
+play first now records p Unsubscribe = record p { commands = given_up (accepted p.replica) now p.commands }
+play first now records p (Deliver note) =
+    record p { replica = after_note (reaching p.wrap p.replica (sent_note note (notes_of first p.commands))) p.replica }
 play first now records p ReadFault = p
 
 abbrev pub played : List ScriptTurn → Played
-played [] = record { commands = []; replica = []; reply = NoReply }
+played [] = record { commands = []; replica = []; reply = NoReply; wrap = last_seq }
 played (turn ∷ older) = play (first_of older) (clock_of older) (records_since older) (played older) turn
 
 -- the history of the accepted scans
@@ -179,15 +190,15 @@ read_text moment None = codes "read none\n"
 read_text moment (Some ask) = reply_text (reply_to moment ask)
 
 -- what notes that were sent write, the first of which has this number
-abbrev pub notes_text : ℕ → List Note → List ℕ
-notes_text number [] = []
-notes_text number (note ∷ notes) =
-    codes "note " ++ decimal number ++ codes " seq " ++ decimal note.seq ++ codes " at " ++ decimal note.number ++ codes "\n"
-    ++ notes_text (number + 1) notes
+abbrev pub notes_text : ℕ → ℕ → List Note → List ℕ
+notes_text wrap number [] = []
+notes_text wrap number (note ∷ notes) =
+    codes "note " ++ decimal number ++ codes " seq " ++ decimal (seq_at wrap note.place) ++ codes " at " ++ decimal note.number ++ codes "\n"
+    ++ notes_text wrap (number + 1) notes
 
 -- what the notes that a command sends write, after the older ones
-abbrev pub sent_text : ℕ → List Command → Command → List ℕ
-sent_text first older command = notes_text (length (notes_of first older) + 1) (sent_by first older (notes_of first older) command)
+abbrev pub sent_text : ℕ → ℕ → List Command → Command → List ℕ
+sent_text wrap first older command = notes_text wrap (length (notes_of first older) + 1) (sent_by first older (notes_of first older) command)
 
 -- what the reply that was held back writes
 abbrev pub accept_text : HeldReply → List ℕ
@@ -196,14 +207,14 @@ accept_text (Named name) = codes "accept 200\n"
 accept_text Refusal = codes "accept 503\n"
 
 -- what renewing the subscription of a name writes
-abbrev pub renew_text : Option ℕ → ℕ → ℕ → List Command → List ℕ
-renew_text None first now commands = codes "renew none\n"
-renew_text (Some name) first now commands = cond (lives name first now commands) (codes "renew 200\n") (codes "renew 412\n")
+abbrev pub renew_text : Option ℕ → ℕ → List Command → List ℕ
+renew_text None now commands = codes "renew none\n"
+renew_text (Some name) now commands = cond (lives name now commands) (codes "renew 200\n") (codes "renew 412\n")
 
 -- what giving up the subscription of a name writes
-abbrev pub unsubscribe_text : Option ℕ → ℕ → ℕ → List Command → List ℕ
-unsubscribe_text None first now commands = codes "unsubscribe none\n"
-unsubscribe_text (Some name) first now commands = cond (lives name first now commands) (codes "unsubscribe 200\n") (codes "unsubscribe 412\n")
+abbrev pub unsubscribe_text : Option ℕ → ℕ → List Command → List ℕ
+unsubscribe_text None now commands = codes "unsubscribe none\n"
+unsubscribe_text (Some name) now commands = cond (lives name now commands) (codes "unsubscribe 200\n") (codes "unsubscribe 412\n")
 
 -- what a delivered note writes
 abbrev pub arrival_text : Arrival → List ℕ
@@ -214,9 +225,10 @@ arrival_text IsEarly = codes "early"
 arrival_text (IsHeld seq) = codes "held " ++ decimal seq
 arrival_text IsNext = codes "took"
 
-abbrev pub deliver_text : ℕ → Option Note → List ReplicaTurn → List ℕ
-deliver_text number None turns = []
-deliver_text number (Some note) turns = codes "deliver " ++ decimal number ++ codes " " ++ arrival_text (arrival note turns) ++ codes "\n"
+abbrev pub deliver_text : ℕ → ℕ → Option Note → List ReplicaTurn → List ℕ
+deliver_text wrap number None turns = []
+deliver_text wrap number (Some note) turns =
+    codes "deliver " ++ decimal number ++ codes " " ++ arrival_text (arrival_on_wire wrap (on_wire wrap note) turns) ++ codes "\n"
 
 -- what an answer writes: after `stands` and a number, each row of the catalog that the folder records up to this number
 -- give
@@ -238,14 +250,15 @@ written first now records p Scan =
     (scan_answer (scans_of first p.commands) records)
 written first now records p Load = []
 written first now records p Read = read_text (moment_after script_token first p.commands) (next_ask (known_by p.replica))
-written first now records p Ask = answer_text (scans_of first p.commands) (says p.replica)
+written first now records p Ask = answer_text (scans_of first p.commands) (says_on_wire p.wrap p.replica)
 written first now records p (First number) = []
-written first now records p (At moment) = sent_text first p.commands (Ticks moment)
-written first now records p Subscribe = cond (has_room now p.commands (notes_of first p.commands)) (sent_text first p.commands (grant_at now)) []
+written first now records p (Wrap number) = []
+written first now records p (At moment) = sent_text p.wrap first p.commands (Ticks moment)
+written first now records p Subscribe = cond (has_room now p.commands) (sent_text p.wrap first p.commands (grant_at now)) []
 written first now records p Accept = accept_text p.reply
-written first now records p Renew = renew_text (accepted p.replica) first now p.commands
-written first now records p Unsubscribe = unsubscribe_text (accepted p.replica) first now p.commands
-written first now records p (Deliver note) = deliver_text note (sent_note note (notes_of first p.commands)) p.replica
+written first now records p Renew = renew_text (accepted p.replica) now p.commands
+written first now records p Unsubscribe = unsubscribe_text (accepted p.replica) now p.commands
+written first now records p (Deliver note) = deliver_text p.wrap note (sent_note note (notes_of first p.commands)) p.replica
 written first now records p ReadFault = codes "readfault\n"
 
 abbrev pub written_by : List ScriptTurn → ScriptTurn → List ℕ
@@ -273,13 +286,27 @@ is_tagging (Track path info size ∷ older) = true
 is_tagging (Tag comment ∷ older) = true
 is_tagging turns = false
 
+-- whether a turn says the first number
+abbrev pub is_first : ScriptTurn → Bool
+is_first (First number) = true
+is_first turn = false
+
+-- whether a note that was sent, if it is heard, is fewer places away than a wrap without a reach
+abbrev pub is_recent_one : ℕ → Option Note → List ReplicaTurn → Bool
+is_recent_one wrap None turns = true
+is_recent_one wrap (Some note) turns = is_recent wrap note turns
+
 -- whether a turn may stand after the older ones; otherwise its line is outside the grammar. The first number comes before all
--- else, and a comment after a track or another comment. Moments never fall, and a note that is delivered was sent
+-- else, a wrap of at least 256 before all but the first number, and a comment after a track or another comment. Moments never
+-- fall. A note that is delivered was sent, and is recent
 abbrev pub may_stand : List ScriptTurn → ScriptTurn → Bool
 may_stand older (Tag comment) = is_tagging older
 may_stand older (First number) = nat_eq (length older) 0
 may_stand older (At moment) = nat_le (clock_of older) moment
-may_stand older (Deliver note) = nat_lt 0 note && nat_le note (length (notes_of (first_of older) (played older).commands))
+may_stand older (Wrap number) = nat_le 256 number && list_all is_first older
+may_stand older (Deliver note) =
+    (nat_lt 0 note && nat_le note (length (notes_of (first_of older) (played older).commands)))
+    && is_recent_one (played older).wrap (sent_note note (notes_of (first_of older) (played older).commands)) (played older).replica
 may_stand older turn = true
 
 -- how a script goes on at a line, by what it means: after these turns, at the line of this number, with what comes after

@@ -12,7 +12,7 @@ use Rattle.cds_script.specs.Lines.{words_of}
 use Rattle.cds_script.specs.Word.{words_said}
 use Rattle.cds_commands.specs.Commands.{Command, Grants}
 use Rattle.cds_script.specs.declared.turn.ScriptTurn.{ScriptTurn}
-use Rattle.cds_script.specs.declared.turn.ScriptTurn.TheVariants.{Folder, Track, Tag, Scan, Load, Read, Ask, First, At, Subscribe, Accept, Renew, Unsubscribe, Deliver, ReadFault}
+use Rattle.cds_script.specs.declared.turn.ScriptTurn.TheVariants.{Folder, Track, Tag, Scan, Load, Read, Ask, First, Wrap, At, Subscribe, Accept, Renew, Unsubscribe, Deliver, ReadFault}
 use Rattle.cds_script.specs.declared.turn.Meaning.{Meaning}
 use Rattle.cds_script.specs.declared.turn.Meaning.TheVariants.{Nothing, Means, Outside}
 
@@ -79,6 +79,10 @@ abbrev pub first_turn : Option ℕ → Option ScriptTurn
 first_turn None = None
 first_turn (Some number) = Some (First number)
 
+abbrev pub wrap_turn : Option ℕ → Option ScriptTurn
+wrap_turn None = None
+wrap_turn (Some number) = Some (Wrap number)
+
 abbrev pub at_turn : Option ℕ → Option ScriptTurn
 at_turn None = None
 at_turn (Some moment) = Some (At moment)
@@ -92,7 +96,8 @@ abbrev pub number_turn : List ℕ → List ℕ → Option ScriptTurn
 number_turn word number =
     cond (same_text word (codes "first")) (first_turn (plain_below (2 ^ 32) number))
     (cond (same_text word (codes "at")) (at_turn (plain_below moment_limit number))
-    (cond (same_text word (codes "deliver")) (deliver_turn (plain_below (2 ^ 32) number)) None))
+    (cond (same_text word (codes "deliver")) (deliver_turn (plain_below (2 ^ 32) number))
+    (cond (same_text word (codes "wrap")) (wrap_turn (plain_below (2 ^ 32) number)) None)))
 
 -- the turn of a line that begins with `folder`, by its other words
 abbrev pub folder_line : List (List ℕ) → Option ScriptTurn
@@ -153,6 +158,7 @@ IsInfoInRange info = (info.rate < 2 ^ 32) × (info.channels < 2 ^ 8) × (info.bi
 abbrev pub IsInRange : ScriptTurn → Type 0
 IsInRange (Track path info size) = IsInfoInRange info × (size < 2 ^ 64)
 IsInRange (First number) = number ≤ 4294967295
+IsInRange (Wrap number) = number ≤ 4294967295
 IsInRange (At moment) = moment < moment_limit
 IsInRange turn = Unit {0}
 

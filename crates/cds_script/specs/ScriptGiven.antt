@@ -14,7 +14,7 @@ use Rattle.cds_load.specs.declared.exchange.Ask.{Ask as Asked}
 use Rattle.cds_commands.specs.Notes.{Note, alive_names, notes_of}
 use Rattle.cds_commands.specs.Subscriptions.{subscription_limit}
 use Rattle.cds_commands.specs.Releases.{released_to, releases_of}
-use Rattle.cds_follow.specs.Inbox.{Accepts, Delivers, accepted, received, has_seq, taken_by}
+use Rattle.cds_follow.specs.Inbox.{Accepts, Delivers, accepted, received, has_place, taken_by}
 use Rattle.cds_follow.specs.Follow.{Known, known_by, next_ask, with_reply, with_notes, says, copied}
 use Rattle.cds_follow.specs.Given.{Entry, moment_after, given_by, latest_length, IsGiven}
 use Rattle.cds_commands.specs.Commands.{AreAccepted}
@@ -63,7 +63,7 @@ nothing_is_refused = (turns : List ScriptTurn) → MayBe turns → AreTaken turn
 
 -- the names of the subscriptions that live after turns, at their current moment
 abbrev pub living_names : List ScriptTurn → List ℕ
-living_names turns = alive_names (clock_of turns) (played turns).commands (notes_of (first_of turns) (played turns).commands)
+living_names turns = alive_names (clock_of turns) (played turns).commands
 
 -- at most 64 subscriptions live, after whichever turns
 abbrev pub subscriptions_are_few : Type 0
@@ -86,8 +86,8 @@ all_turns_stand_at_scan_ends = (turns : List ScriptTurn) → MayBe turns → Sta
 pub record IsComplete (turns : List ScriptTurn) (name : ℕ) : Type 0 where
   pub begun : load_was_begun (played turns).replica ≡ true
   pub named : accepted (played turns).replica ≡ Some name
-  pub alive : lives name (first_of turns) (clock_of turns) (played turns).commands ≡ true
-  pub all : AllByRecursion (λ (note : Note). note.name ≡ name → has_seq (received (played turns).replica) note.seq ≡ true)
+  pub alive : lives name (clock_of turns) (played turns).commands ≡ true
+  pub all : AllByRecursion (λ (note : Note). note.name ≡ name → has_place (received (played turns).replica) note.place ≡ true)
       (notes_of (first_of turns) (played turns).commands)
   pub released : released_to (first_of turns) (releases_of (first_of turns) (played turns).commands) ≡ end_of (history_of turns)
   pub nothing : next_ask (known_by (played turns).replica) ≡ None

@@ -58,6 +58,11 @@ pub fn first_number_first()
     ensures { examples.first_number_first }
 {}
 
+/// States that the SEQ after which comes SEQ 1 is named once, before all else but the first number.
+pub fn wrap_first()
+    ensures { examples.wrap_first }
+{}
+
 /// States that a line outside the grammar ends the script.
 pub fn broken_line()
     ensures { examples.broken_line }

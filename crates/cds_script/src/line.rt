@@ -5,7 +5,7 @@ ghost use Rattle.cds_base.specs.Number.{plain_below};
 ghost use Rattle.cds_object.specs.Content.{same_text};
 ghost use Rattle.cds_object.specs.ContentOf.{bare_info};
 ghost use Rattle.cds_script.specs.Lines.{words_of};
-ghost use Rattle.cds_script.specs.Script.{number_from_to, info_from, path_said, folder_turn, track_turn, tag_turn, moment_limit, first_turn, at_turn, deliver_turn, plain_turn, number_turn, plain_line, folder_line, track_line, tag_line, turn_of, meaning_of_turn, meaning_of_words, meaning_of};
+ghost use Rattle.cds_script.specs.Script.{number_from_to, info_from, path_said, folder_turn, track_turn, tag_turn, moment_limit, first_turn, at_turn, wrap_turn, deliver_turn, plain_turn, number_turn, plain_line, folder_line, track_line, tag_line, turn_of, meaning_of_turn, meaning_of_words, meaning_of};
 
 use crate::word::{Word, words_in};
 use crate::{Meaning, ScriptTurn};
@@ -134,6 +134,8 @@ fn numbered(word: &[u8], number: &[u8]) -> Option<ScriptTurn>
         at(number)
     } else if is_text(word, "deliver") {
         deliver(number)
+    } else if is_text(word, "wrap") {
+        wrap(number)
     } else {
         None
     }
@@ -145,6 +147,18 @@ fn first(number: &[u8]) -> Option<ScriptTurn>
 {
     match number_below(number, 1 << 32) {
         Some(number) => Some(ScriptTurn::First {
+            number: number as u32,
+        }),
+        None => None,
+    }
+}
+
+/// Returns the turn of a line that names the SEQ after which comes SEQ 1.
+fn wrap(number: &[u8]) -> Option<ScriptTurn>
+    ensures { result ≡ wrap_turn (plain_below (2 ^ 32) number.now) }
+{
+    match number_below(number, 1 << 32) {
+        Some(number) => Some(ScriptTurn::Wrap {
             number: number as u32,
         }),
         None => None,

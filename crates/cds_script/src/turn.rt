@@ -31,6 +31,10 @@ pub enum ScriptTurn {
     First {
         number: u32,
     },
+    /// The SEQ after which comes SEQ 1, from 256 on. The line of a lower number is outside the grammar.
+    Wrap {
+        number: u32,
+    },
     /// Sets the current moment, in milliseconds. Then the server ends the subscriptions that have run out, and releases what is
     /// due.
     At {

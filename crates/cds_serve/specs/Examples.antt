@@ -30,7 +30,7 @@ LivesAreWritten =
     × (share_of 4294967295 2 ≡ 1073741824)
     × (share_of 4294967295 3 ≡ 1073741823)
     × (first_word (2 ^ 48 + 1) ≡ 65536)
-    × (sid_text (name_of (record { high = first_word 1; low = second_word 49152; first = 0 }) 1) ≡ codes "uuid:00000000-0001-8000-8000-c00000000001")
+    × (sid_text (name_of (record { high = first_word 1; low = second_word 49152; first = 0; wrap = 4294967295 }) 1) ≡ codes "uuid:00000000-0001-8000-8000-c00000000001")
 
 -- the requests that are answered without a turn: target and method are compared whole and as they stand
 abbrev pub RequestsAreFree : Type 0

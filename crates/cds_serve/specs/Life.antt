@@ -86,7 +86,7 @@ pub record AreFirstWords (port : ℕ) (clock : ClockTold) (boot : List ℕ) : Ty
 
 -- the start of a server with these boot words, at the number 0
 abbrev pub start_with : List ℕ → Start
-start_with boot = record { high = slice_index boot 0; low = slice_index boot 1; first = 0 }
+start_with boot = record { high = slice_index boot 0; low = slice_index boot 1; first = 0; wrap = 4294967295 }
 
 -- the start of a server that was opened with the boot words of a moment and a port
 abbrev pub start_at : ℕ → ℕ → Start

@@ -33,7 +33,7 @@ impl Model for ServerStart {
 
     ghost Value = { Start };
 
-    ghost view = { λ o. record { high = slice_index o.boot 0; low = slice_index o.boot 1; first = o.first } };
+    ghost view = { λ o. record { high = slice_index o.boot 0; low = slice_index o.boot 1; first = o.first; wrap = 4294967295 } };
 }
 
 /// One command that a server accepted. No value of it is made: only contracts speak of commands.
@@ -78,7 +78,7 @@ impl<V: Serving> StandsFor for Served<V> {
 impl Served<Server> {
     /// Makes a server before any command, opened with two boot words and its first number.
     pub fn new(alloc: Global, boot: [u64; 2], first: u32) -> Result<Served<Server>, Mem>
-        ensures start { IfOk result (λ served. served.start ≡ record { high = slice_index boot 0; low = slice_index boot 1; first = first }) }
+        ensures start { IfOk result (λ served. served.start ≡ record { high = slice_index boot 0; low = slice_index boot 1; first = first; wrap = 4294967295 }) }
         ensures stands { IfOk result (λ served. Stands StandsFor served served.start []) }
     {
         let opening = ServerStart { boot, first };

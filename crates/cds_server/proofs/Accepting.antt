@@ -5,10 +5,10 @@ use Rattle.url.specs.Parts.{serialize}
 use Rattle.cds_http.specs.declared.message.Message.{Message}
 use Rattle.cds_commands.specs.Commands.{Command, Start, Scans, Grants, Renews, Ends, Ticks, Stops}
 use Rattle.cds_commands.specs.Names.{names_of}
-use Rattle.cds_commands.specs.Subscriptions.{granted, subscription_limit}
-use Rattle.cds_commands.specs.Notes.{alive_names, notes_of}
+use Rattle.cds_commands.specs.Subscriptions.{granted, is_alive, subscription_limit}
+use Rattle.cds_commands.specs.Notes.{alive_names}
 use Rattle.cds_gena.specs.Asked.{gena_of}
-use Rattle.cds_gena.specs.Served.{Served, lives_at}
+use Rattle.cds_gena.specs.Served.{Served}
 use Rattle.cds_gena.specs.Subscribed.{last_number, number_of}
 use Rattle.cds_gena.specs.declared.error.GenaError.{GenaError}
 use Rattle.cds_gena.specs.declared.error.GenaError.TheVariants.{Spent, Full}
@@ -20,25 +20,25 @@ use Rattle.cds_server.specs.Replies.{command_by}
 use Rattle.cds_server.specs.Laws.{accepted_are_served}
 
 -- what was served up to a moment was served up to a later one
-later : (first before now : ℕ) (commands : List Command) → before ≤ now → Served first before commands → Served first now commands
-later first before now [] l s = tt
-later first before now (Scans library ∷ older) l s = later first before now older l s
-later first before now (Grants moment callback seconds ∷ older) l (low, room, rest) = (omega (arith, low, l), room, rest)
-later first before now (Renews moment number seconds ∷ older) l (low, lives, rest) = (omega (arith, low, l), lives, rest)
-later first before now (Ends moment number ∷ older) l (low, rest) = (omega (arith, low, l), rest)
-later first before now (Ticks moment ∷ older) l (low, rest) = (omega (arith, low, l), rest)
-later first before now (Stops ∷ older) l s = later first before now older l s
+later : (before now : ℕ) (commands : List Command) → before ≤ now → Served before commands → Served now commands
+later before now [] l s = tt
+later before now (Scans library ∷ older) l s = later before now older l s
+later before now (Grants moment callback seconds ∷ older) l (low, room, rest) = (omega (arith, low, l), room, rest)
+later before now (Renews moment number seconds ∷ older) l (low, lives, rest) = (omega (arith, low, l), lives, rest)
+later before now (Ends moment number ∷ older) l (low, rest) = (omega (arith, low, l), rest)
+later before now (Ticks moment ∷ older) l (low, rest) = (omega (arith, low, l), rest)
+later before now (Stops ∷ older) l s = later before now older l s
 
 none-some : (command : Command) → None ≡ Some command → ⊥
 none-some command e = true≢false (sym (ap is_some e))
 
-module _ (start : Start) (older : List Command) (now : ℕ) (served : Served start.first now older) where
+module _ (start : Start) (older : List Command) (now : ℕ) (served : Served now older) where
   abbrev live : ℕ
-  live = length (alive_names now older (notes_of start.first older))
+  live = length (alive_names now older)
 
   abbrev Accepts : Option Command → Type 0
   Accepts None = ⊤
-  Accepts (Some command) = Served start.first now (command ∷ older)
+  Accepts (Some command) = Served now (command ∷ older)
 
   by-grant : (callback : List ℕ) (seconds : ℕ) (a b : Bool) → nat_lt live subscription_limit ≡ b
       → Accepts (command_of now (granting (cond a (Some Spent) (cond b None (Some (Full live)))) callback seconds))
@@ -46,11 +46,11 @@ module _ (start : Start) (older : List Command) (now : ℕ) (served : Served sta
   by-grant callback seconds false true room = (omega arith, room, served)
   by-grant callback seconds false false room = tt
 
-  by-renewal : (seconds : ℕ) (o : Option ℕ) → Accepts (command_of now (renewing (if_lives start.first now older o) seconds))
+  by-renewal : (seconds : ℕ) (o : Option ℕ) → Accepts (command_of now (renewing (if_lives now older o) seconds))
   by-renewal seconds None = tt
-  by-renewal seconds (Some number) = by (lives_at start.first now older number) refl
+  by-renewal seconds (Some number) = by (is_alive number now older) refl
     where
-      by : (b : Bool) → lives_at start.first now older number ≡ b → Accepts (command_of now (renewing (cond b (Some number) None) seconds))
+      by : (b : Bool) → is_alive number now older ≡ b → Accepts (command_of now (renewing (cond b (Some number) None) seconds))
       by true lives = (omega arith, lives, served)
       by false lives = tt
 
@@ -58,7 +58,7 @@ module _ (start : Start) (older : List Command) (now : ℕ) (served : Served sta
   by-end None = tt
   by-end (Some number) = (omega arith, served)
 
-  by-gena : (g : Result Gena GenaError) → Accepts (command_of now (outcome_of (refusal_of start.first now older) (living_number start now older) g))
+  by-gena : (g : Result Gena GenaError) → Accepts (command_of now (outcome_of (refusal_of now older) (living_number start now older) g))
   by-gena (Ok (Subscribe url seconds)) =
       by-grant (serialize url) seconds (nat_eq (granted older) last_number) (nat_lt live subscription_limit) refl
   by-gena (Ok (Renew sid seconds)) = by-renewal seconds (number_of (names_of start) sid.0)
@@ -66,10 +66,10 @@ module _ (start : Start) (older : List Command) (now : ℕ) (served : Served sta
   by-gena (Err cause) = tt
 
   by-route : (m : Message) (command : Command) (r : Route) → command_by r now (outcome start older now m) ≡ Some command
-      → Served start.first now (command ∷ older)
+      → Served now (command ∷ older)
   by-route m command Subscribes e = subst Accepts e (by-gena (gena_of m))
   by-route m command (Goes way) e = absurd (none-some command e)
 
 pub accepted-served : accepted_are_served
 accepted-served start older before now m command served low e =
-    by-route start older now (later start.first before now older low served) m command (route m) e
+    by-route start older now (later before now older low served) m command (route m) e

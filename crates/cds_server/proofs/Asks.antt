@@ -70,12 +70,12 @@ module _ (m : Message) (there : route m ≡ Subscribes) where
   pub event-asks : (request : EventRequest) → gena_of m ≡ Ok request.gena → IsAsking m (ask.Subscription request)
   event-asks request is = record {
     replies = λ start commands now. subst (λ (r : Route). IsReplyOf start commands now m r (asked_reply start commands now request.gena)) (sym there)
-        (sym (ap (λ g. outcome_reply (names_of start) (granted commands) (outcome_of (refusal_of start.first now commands) (living_number start now commands) g)) is));
+        (sym (ap (λ g. outcome_reply (names_of start) (granted commands) (outcome_of (refusal_of now commands) (living_number start now commands) g)) is));
     command = λ start commands now. ap (λ (r : Route). command_by r now (outcome start commands now m)) there
-        ∙ ap (λ g. command_of now (outcome_of (refusal_of start.first now commands) (living_number start now commands) g)) is;
+        ∙ ap (λ g. command_of now (outcome_of (refusal_of now commands) (living_number start now commands) g)) is;
     note = λ start commands now. ap (λ (r : Route). note_by r (first_of start commands now m)) there
         ∙ ap (λ g. outcome_note (names_of start) (granted commands) (end_of (scans_of start.first commands))
-        (outcome_of (refusal_of start.first now commands) (living_number start now commands) g)) is;
+        (outcome_of (refusal_of now commands) (living_number start now commands) g)) is;
   }
 
   refused-is : (refusal : GenaError) → (refusal ≡ Mem) ⊎ (gena_of m ≡ Err refusal) → refusal ≢ Mem → gena_of m ≡ Err refusal
@@ -85,12 +85,12 @@ module _ (m : Message) (there : route m ≡ Subscribes) where
   refused-asks-so : (refusal : GenaError) (text : List ℕ) → gena_of m ≡ Err refusal → text ≡ empty_reply (status_of refusal) → IsAsking m (ask.Ready text)
   refused-asks-so refusal text is same = record {
     replies = λ start commands now. subst (λ (r : Route). IsReplyOf start commands now m r text) (sym there)
-        (same ∙ sym (ap (λ g. outcome_reply (names_of start) (granted commands) (outcome_of (refusal_of start.first now commands) (living_number start now commands) g)) is));
+        (same ∙ sym (ap (λ g. outcome_reply (names_of start) (granted commands) (outcome_of (refusal_of now commands) (living_number start now commands) g)) is));
     command = λ start commands now. ap (λ (r : Route). command_by r now (outcome start commands now m)) there
-        ∙ ap (λ g. command_of now (outcome_of (refusal_of start.first now commands) (living_number start now commands) g)) is;
+        ∙ ap (λ g. command_of now (outcome_of (refusal_of now commands) (living_number start now commands) g)) is;
     note = λ start commands now. ap (λ (r : Route). note_by r (first_of start commands now m)) there
         ∙ ap (λ g. outcome_note (names_of start) (granted commands) (end_of (scans_of start.first commands))
-        (outcome_of (refusal_of start.first now commands) (living_number start now commands) g)) is;
+        (outcome_of (refusal_of now commands) (living_number start now commands) g)) is;
   }
 
   pub refused-asks : (refusal : GenaError) (text : List ℕ) → (refusal ≡ Mem) ⊎ (gena_of m ≡ Err refusal) → refusal ≢ Mem → text ≡ empty_reply (status_of refusal)

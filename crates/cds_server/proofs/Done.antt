@@ -53,14 +53,14 @@ module _ (book : Booked) (number now : ℕ) (old new : List ℕ) (settled : Sett
       (refused-done book number now (status_of refusal) old new settled after is same none)
 
   pub made-grant : (callback : List ℕ) (seconds name : ℕ) → grant_refusal now book.subscribed ≡ None → new ≡ old ++ lease_reply name seconds
-      → name ≡ book.names + (book.subscribed.granted + 1) → after.names ≡ book.names → after.subscribed ≡ with_grant now callback seconds book.subscribed
+      → name ≡ book.names + (book.subscribed.granted + 1) → after.names ≡ book.names → after.wrap ≡ book.wrap → after.subscribed ≡ with_grant now callback seconds book.subscribed
       → settled.note ≡ Some (noted name callback (first_note name number)) → settled.accepted ≡ true
       → IsDone book number now (granting (grant_refusal now book.subscribed) callback seconds) old new settled after
-  made-grant callback seconds name e is named names more told was =
+  made-grant callback seconds name e is named names wrap more told was =
       subst (λ r. IsDone book number now (granting r callback seconds) old new settled after) (sym e)
       (record {
         replied = is ∙ ap (λ n. old ++ lease_reply n seconds) named;
-        kept = λ i. record { names = names i; subscribed = more i };
+        kept = λ i. record { names = names i; wrap = wrap i; subscribed = more i };
         noted = told ∙ ap (λ n. Some (noted n callback (first_note n number))) named;
         accepted = was;
       })
@@ -100,16 +100,16 @@ named-number book now name number e = by (number_of book.names name) refl e
 
 module _ (book : Booked) (number now name : ℕ) (old new : List ℕ) (after : Booked) where
   pub renewal-made : (seconds : ℕ) → IsSome (living_named now name book)
-      → IfSome (living_named now name book) (λ n. after.subscribed ≡ renewed n (end_after now seconds) book.subscribed) → after.names ≡ book.names
+      → IfSome (living_named now name book) (λ n. after.subscribed ≡ renewed n (end_after now seconds) book.subscribed) → after.names ≡ book.names → after.wrap ≡ book.wrap
       → new ≡ old ++ lease_reply name seconds → IsDone book number now (renewing (living_named now name book) seconds) old new accepted_only after
-  renewal-made seconds some step names is = by (living_named now name book) refl some step
+  renewal-made seconds some step names wrap is = by (living_named now name book) refl some step
     where
       by : (o : Option ℕ) → living_named now name book ≡ o → IsSome o → IfSome o (λ n. after.subscribed ≡ renewed n (end_after now seconds) book.subscribed)
           → IsDone book number now (renewing o seconds) old new accepted_only after
       by None e some step = absurd (cc)
       by (Some n) e some step = record {
         replied = is ∙ ap (λ k. old ++ lease_reply k seconds) (sym (named-number book now name n e));
-        kept = λ i. record { names = names i; subscribed = step i };
+        kept = λ i. record { names = names i; wrap = wrap i; subscribed = step i };
         noted = refl;
         accepted = refl;
       }
@@ -122,14 +122,14 @@ module _ (book : Booked) (number now name : ℕ) (old new : List ℕ) (after : B
       by None e = refused-done book number now 412 old new unsettled after is same refl
       by (Some n) e = absurd (away (subst IsSome (sym e) refl))
 
-  pub end-made : IsSome (living_named now name book) → IfSome (living_named now name book) (λ n. after.subscribed ≡ without n book.subscribed) → after.names ≡ book.names
+  pub end-made : IsSome (living_named now name book) → IfSome (living_named now name book) (λ n. after.subscribed ≡ without n book.subscribed) → after.names ≡ book.names → after.wrap ≡ book.wrap
       → new ≡ old ++ empty_reply 200 → IsDone book number now (ending (living_named now name book)) old new accepted_only after
-  end-made some step names is = by (living_named now name book) refl some step
+  end-made some step names wrap is = by (living_named now name book) refl some step
     where
       by : (o : Option ℕ) → living_named now name book ≡ o → IsSome o → IfSome o (λ n. after.subscribed ≡ without n book.subscribed)
           → IsDone book number now (ending o) old new accepted_only after
       by None e some step = absurd (cc)
-      by (Some n) e some step = record { replied = is; kept = λ i. record { names = names i; subscribed = step i }; noted = refl; accepted = refl }
+      by (Some n) e some step = record { replied = is; kept = λ i. record { names = names i; wrap = wrap i; subscribed = step i }; noted = refl; accepted = refl }
 
   pub end-refused : (IsSome (living_named now name book) → ⊥) → new ≡ old ++ empty_reply 412 → after ≡ book
       → IsDone book number now (ending (living_named now name book)) old new unsettled after

@@ -6,7 +6,7 @@ use Rattle.cds_http.specs.declared.message.Message.{Message}
 use Rattle.cds_commands.specs.Commands.{Command, Start}
 use Rattle.cds_commands.specs.Names.{names_of}
 use Rattle.cds_commands.specs.Subscriptions.{granted, subscription_limit}
-use Rattle.cds_commands.specs.Notes.{alive_names, notes_of}
+use Rattle.cds_commands.specs.Notes.{alive_names}
 use Rattle.cds_gena.specs.Asked.{callback_in, ending, field_of, gena_by, gena_of, has_method, is_event, renewing, seconds_of, subscribe_of, subscribing}
 use Rattle.cds_gena.specs.SidText.{sid_in}
 use Rattle.cds_gena.specs.Subscribed.{last_number, number_of}
@@ -79,7 +79,7 @@ none-some number e = true≢false (ap is_some e)
 lives-none : (start : Start) (commands : List Command) (now name : ℕ) → living_number start now commands name ≡ None → LivesNone start commands now name
 lives-none start commands now name none number few is lives =
     none-some number
-    (sym (ap (if_lives start.first now commands) (ap (number_of (names_of start)) is ∙ numbered (names_of start) number few)
+    (sym (ap (if_lives now commands) (ap (number_of (names_of start)) is ∙ numbered (names_of start) number few)
     ∙ ap (λ b. cond b (Some number) None) lives)
     ∙ none)
 
@@ -108,10 +108,10 @@ module _ (start : Start) (commands : List Command) (now : ℕ) (m : Message) (te
   by-end sid e (Some number) some is reply = inr (inr (inr (record { fields = []; body = []; written = reply }, accepted (Ended number) is refl)))
 
   by-grant : (url : Parts) (seconds : ℕ) → gena_of m ≡ Ok (Subscribe url seconds) → (a b : Bool) → nat_eq (granted commands) last_number ≡ a
-      → nat_lt (length (alive_names now commands (notes_of start.first commands))) subscription_limit ≡ b
+      → nat_lt (length (alive_names now commands)) subscription_limit ≡ b
       → outcome start commands now m
-      ≡ granting (cond a (Some Spent) (cond b None (Some (Full (length (alive_names now commands (notes_of start.first commands))))))) (serialize url) seconds
-      → replies (granting (cond a (Some Spent) (cond b None (Some (Full (length (alive_names now commands (notes_of start.first commands))))))) (serialize url) seconds)
+      ≡ granting (cond a (Some Spent) (cond b None (Some (Full (length (alive_names now commands)))))) (serialize url) seconds
+      → replies (granting (cond a (Some Spent) (cond b None (Some (Full (length (alive_names now commands)))))) (serialize url) seconds)
       → Cause
   by-grant url seconds e true b last live is reply = inr (inr (inl (reply, ((url, seconds, e), inl (eqb-true (granted commands) last_number last)))))
   by-grant url seconds e false true last live is reply =
@@ -120,14 +120,14 @@ module _ (start : Start) (commands : List Command) (now : ℕ) (m : Message) (te
         accepted (Granted (serialize url) seconds) is refl,
       )))
   by-grant url seconds e false false last live is reply =
-      inr (inr (inl (reply, ((url, seconds, e), inr (ltb-false (length (alive_names now commands (notes_of start.first commands))) subscription_limit live)))))
+      inr (inr (inl (reply, ((url, seconds, e), inr (ltb-false (length (alive_names now commands)) subscription_limit live)))))
 
   by-gena : (g : Result Gena GenaError) → gena_of m ≡ g → IsOwed g
-      → outcome start commands now m ≡ outcome_of (refusal_of start.first now commands) (living_number start now commands) g
-      → replies (outcome_of (refusal_of start.first now commands) (living_number start now commands) g) → Cause
+      → outcome start commands now m ≡ outcome_of (refusal_of now commands) (living_number start now commands) g
+      → replies (outcome_of (refusal_of now commands) (living_number start now commands) g) → Cause
   by-gena (Ok (Subscribe url seconds)) e o is reply =
       by-grant url seconds e (nat_eq (granted commands) last_number)
-      (nat_lt (length (alive_names now commands (notes_of start.first commands))) subscription_limit) refl refl is reply
+      (nat_lt (length (alive_names now commands)) subscription_limit) refl refl is reply
   by-gena (Ok (Renew sid seconds)) e o is reply = by-renewal sid seconds e (living_number start now commands sid.0) refl is reply
   by-gena (Ok (Unsubscribe sid)) e o is reply = by-end sid e (living_number start now commands sid.0) refl is reply
   by-gena (Err Incompatible) e o is reply = inl (reply, e)

@@ -56,17 +56,17 @@ other-note start commands now m unasked = ap (λ (w : Route). note_by w (first_o
 -- ---- what comes of a request about a subscription
 
 pub outcome-is : (book : Booked) (start : Start) (commands : List Command) (now : ℕ) (asked : Result Gena GenaError) → BookStandsFor book start commands
-    → outcome_in book now asked ≡ outcome_of (refusal_of start.first now commands) (living_number start now commands) asked
+    → outcome_in book now asked ≡ outcome_of (refusal_of now commands) (living_number start now commands) asked
 outcome-is book start commands now asked s = λ i. outcome_of (refusal i) (λ name. number name i) asked
   where
-    refusal : grant_refusal now book.subscribed ≡ refusal_of start.first now commands
+    refusal : grant_refusal now book.subscribed ≡ refusal_of now commands
     refusal =
         ap (grant_refusal now) s.subscribed
-        ∙ ap (λ n. cond (nat_eq (granted commands) last_number) (Some Spent) (if_full n)) (sym (as-many start.first now commands))
+        ∙ ap (λ n. cond (nat_eq (granted commands) last_number) (Some Spent) (if_full n)) (sym (as-many start now commands))
 
-    lives : (o : Option ℕ) → if_alive now (subscribed_by start.first commands).living o ≡ if_lives start.first now commands o
+    lives : (o : Option ℕ) → if_alive now (subscribed_by start commands).living o ≡ if_lives now commands o
     lives None = refl
-    lives (Some n) = ap (λ b. cond b (Some n) None) (number-alive start.first now commands n)
+    lives (Some n) = ap (λ b. cond b (Some n) None) (number-alive start now commands n)
 
     number : (name : ℕ) → living_named now name book ≡ living_number start now commands name
     number name =
@@ -83,15 +83,21 @@ done-stands : (book : Booked) (start : Start) (commands : List Command) (now : �
 done-stands book start commands now (Refused status) s = s
 done-stands book start commands now (Granted callback seconds) s = record {
   names = s.names;
-  subscribed = ap (with_grant now callback seconds) s.subscribed ∙ sym (booked-grant start.first commands now callback seconds);
+  wrap = s.wrap;
+  wide = s.wide;
+  subscribed = ap (with_grant now callback seconds) s.subscribed ∙ sym (booked-grant start commands now callback seconds (omega (arith, s.wide)));
 }
 done-stands book start commands now (Renewed number seconds) s = record {
   names = s.names;
-  subscribed = ap (renewed number (end_after now seconds)) s.subscribed ∙ sym (booked-renewal start.first commands now number seconds);
+  wrap = s.wrap;
+  wide = s.wide;
+  subscribed = ap (renewed number (end_after now seconds)) s.subscribed ∙ sym (booked-renewal start commands now number seconds);
 }
 done-stands book start commands now (Ended number) s = record {
   names = s.names;
-  subscribed = ap (without number) s.subscribed ∙ sym (booked-end start.first commands now number);
+  wrap = s.wrap;
+  wide = s.wide;
+  subscribed = ap (without number) s.subscribed ∙ sym (booked-end start commands now number);
 }
 
 with-book : (serving : Serving) (start : Start) (commands : List Command) (now : ℕ) (o : Outcome) (after : Booked) → StandsFor serving start commands
@@ -268,7 +274,12 @@ pub scan-stands : (serving : Serving) (start : Start) (commands : List Command) 
 scan-stands serving start commands records store moderated s stored same told = record {
   store = stored;
   kept = same ∙ s.kept;
-  book = record { names = s.book.names; subscribed = s.book.subscribed ∙ sym (booked-scan start.first commands (map_of records)) };
+  book = record {
+    names = s.book.names;
+    wrap = s.book.wrap;
+    wide = s.book.wide;
+    subscribed = s.book.subscribed ∙ sym (booked-scan start commands (map_of records));
+  };
   moderated = told;
   stopped = s.stopped;
 }
@@ -298,7 +309,7 @@ pub stop-stands : (serving : Serving) (start : Start) (commands : List Command) 
 stop-stands serving start commands s = record {
   store = s.store;
   kept = s.kept;
-  book = record { names = s.book.names; subscribed = s.book.subscribed ∙ sym (booked-stop start.first commands) };
+  book = record { names = s.book.names; wrap = s.book.wrap; wide = s.book.wide; subscribed = s.book.subscribed ∙ sym (booked-stop start commands) };
   moderated = s.moderated;
   stopped = refl;
 }

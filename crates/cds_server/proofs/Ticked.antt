@@ -14,7 +14,8 @@ use Rattle.cds_commands.specs.Commands.{Command, Start, Scans, Ticks, scans_of}
 use Rattle.cds_commands.specs.Names.{names_of}
 use Rattle.cds_commands.specs.Releases.{Release, and_release, release_at, release_size, released_to, releases_of, scan_end_within}
 use Rattle.cds_commands.specs.Subscriptions.{callback_of, granted, runs_until}
-use Rattle.cds_commands.specs.Notes.{Note, alive_names, next_seq_of, notes_of, released_note, released_notes, sent_by, seq_limit}
+use Rattle.cds_commands.specs.Places.{seq_at}
+use Rattle.cds_commands.specs.Notes.{Note, alive_names, next_place_of, notes_of, released_note, released_notes, sent_by}
 use Rattle.cds_commands.proofs.Sent.{Stood, first-is, release-is, stood-below, within-stood}
 use Rattle.cds_gena.specs.declared.address.Address.{Address}
 use Rattle.cds_gena.specs.declared.book.Subscription.{Subscription}
@@ -46,20 +47,15 @@ each-given {X} {Y} P f (x ∷ xs) h = by (f x) refl (each-given P f xs h)
 abbrev Calls : List Command → Entry → Type 0
 Calls commands p = p.1.callback ≡ unwrap_or (callback_of p.0 commands) []
 
-running-calls : (number : ℕ) (callback : List ℕ) (seq : ℕ) (o : Option ℕ) (p : Entry) → running number callback seq o ≡ Some p → (number ≡ p.0) × (callback ≡ p.1.callback)
-running-calls number callback seq None p e = none≢some None p refl e
-running-calls number callback seq (Some end) p e = by (nat_lt seq seq_limit) e
-  where
-    this : Entry
-    this = (number, record { callback = callback; end = end; next_seq = seq })
+running-calls : (wrap number : ℕ) (callback : List ℕ) (place : ℕ) (o : Option ℕ) (p : Entry) → running wrap number callback place o ≡ Some p → (number ≡ p.0) × (callback ≡ p.1.callback)
+running-calls wrap number callback place None p e = none≢some None p refl e
+running-calls wrap number callback place (Some end) p e =
+    let same : (number, record { callback = callback; end = end; next_seq = seq_at wrap place }) ≡ p = cc in
+    (ap (λ (q : Entry). q.0) same, ap (λ (q : Entry). q.1.callback) same)
 
-    by : (b : Bool) → cond b (Some this) None ≡ Some p → (number ≡ p.0) × (callback ≡ p.1.callback)
-    by true k = let same : this ≡ p = cc in (ap (λ (q : Entry). q.0) same, ap (λ (q : Entry). q.1.callback) same)
-    by false k = none≢some None p refl k
-
-calls : (first : ℕ) (commands : List Command) (number : ℕ) (p : Entry) → subscription_of first commands number ≡ Some p → Calls commands p
-calls first commands number p e =
-    let is = running-calls number (unwrap_or (callback_of number commands) []) (next_seq_of number (notes_of first commands)) (runs_until number commands) p e in
+calls : (start : Start) (commands : List Command) (number : ℕ) (p : Entry) → subscription_of start commands number ≡ Some p → Calls commands p
+calls start commands number p e =
+    let is = running-calls start.wrap number (unwrap_or (callback_of number commands) []) (next_place_of number (notes_of start.first commands)) (runs_until number commands) p e in
     sym is.1 ∙ ap (λ n. unwrap_or (callback_of n commands) []) is.0
 
 abbrev at : Start → List Command → (ℕ × ℕ) → Address
@@ -72,18 +68,18 @@ each-at start commands (p ∷ living) all = λ i. record { sid = record { 0 = na
 
 pub addresses-are : (start : Start) (commands : List Command) (now : ℕ) (release : Release)
     → release_at now (scans_of start.first commands) (releases_of start.first commands) ≡ Some release
-    → map (address_of (names_of start)) (alive now (subscribed_by start.first commands).living)
+    → map (address_of (names_of start)) (alive now (subscribed_by start commands).living)
     ≡ map (address_to start commands) (sent_by start.first commands (notes_of start.first commands) (Ticks now))
 addresses-are start commands now release e =
     each-at start commands living
-    (each-filter (Calls commands) (λ (p : Entry). nat_lt now p.1.end) (subscribed_by start.first commands).living
-    (each-given (Calls commands) (subscription_of start.first commands) (range_with_len 1 (granted commands)) (calls start.first commands)))
+    (each-filter (Calls commands) (λ (p : Entry). nat_lt now p.1.end) (subscribed_by start commands).living
+    (each-given (Calls commands) (subscription_of start commands) (range_with_len 1 (granted commands)) (calls start commands)))
     ∙ sym (map_map (at start commands) next_under living)
-    ∙ ap (map (at start commands)) (sym (notes-counted start.first now commands release e))
-    ∙ map_map (at start commands) sent_under (sent_by start.first commands (notes_of start.first commands) (Ticks now))
+    ∙ ap (map (at start commands)) (sym (notes-counted start now commands release e))
+    ∙ map_map (at start commands) (sent_under start.wrap) (sent_by start.first commands (notes_of start.first commands) (Ticks now))
   where
     living : List Entry
-    living = alive now (subscribed_by start.first commands).living
+    living = alive now (subscribed_by start commands).living
 
 -- ---- a tick
 
@@ -230,7 +226,7 @@ notes-sent start commands now release e =
     history = scans_of start.first commands
 
     names : List ℕ
-    names = alive_names now commands (notes_of start.first commands)
+    names = alive_names now commands
 
     Told : Note → Type 0
     Told note = (note.number ≡ release.to) × (note.events ≡ events_between history release.from release.to)

@@ -27,7 +27,7 @@ use Rattle.cds_server.specs.Replies.{IsReply, command_at, note_at}
 -- a request about a subscription that was read: what comes of it, its reply, its command and its first note
 abbrev pub asked_outcome : Start → List Command → ℕ → Gena → Outcome
 asked_outcome start commands now gena =
-    outcome_of (refusal_of start.first now commands) (living_number start now commands) (Ok gena)
+    outcome_of (refusal_of now commands) (living_number start now commands) (Ok gena)
 
 abbrev pub asked_reply : Start → List Command → ℕ → Gena → List ℕ
 asked_reply start commands now gena = outcome_reply (names_of start) (granted commands) (asked_outcome start commands now gena)

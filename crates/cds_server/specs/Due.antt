@@ -8,6 +8,7 @@ use Rattle.cds_commands.specs.Names.{name_of}
 use Rattle.cds_commands.specs.Releases.{Release, release_at, released_containers, releases_of}
 use Rattle.cds_commands.specs.Subscriptions.{callback_of}
 use Rattle.cds_commands.specs.Notes.{Note, notes_of, sent_by}
+use Rattle.cds_commands.specs.Places.{seq_at}
 use Rattle.cds_gena.specs.Subscribed.{IsDelivered}
 use Rattle.cds_gena.specs.declared.address.Address.{Address}
 use Rattle.cds_moderator.specs.Moderating.{span_of}
@@ -19,7 +20,7 @@ abbrev pub address_to : Start → List Command → Note → Address
 address_to start commands note = record {
   sid = record { 0 = name_of start note.name };
   callback = unwrap_or (callback_of note.name commands) [];
-  seq = note.seq;
+  seq = seq_at start.wrap note.place;
 }
 
 -- the body of the notes of a release: the number of its last change, the containers that changed, and the changes

@@ -64,7 +64,7 @@ RequestsAreRouted =
 -- ---- what is published
 
 abbrev beginning : Beginning
-beginning = record { high = 0; low = 0; first = 0 }
+beginning = record { high = 0; low = 0; first = 0; wrap = 4294967295 }
 
 -- a request for the number and the token, after one scan of a folder with a track
 abbrev answered : Action → Answer
@@ -74,7 +74,7 @@ abbrev pub ActionsAreAnswered : Type 0
 ActionsAreAnswered =
     (answered action.GetSystemUpdateId ≡ answer.Number 2)
     × (answered action.GetServiceResetToken ≡ answer.Text (codes "00000000-0000-8000-8000-000000000000"))
-    × (answer_to (published_by (record { high = 0; low = 0; first = 7 }) []) (codes "h") action.GetSystemUpdateId ≡ answer.Number 7)
+    × (answer_to (published_by (record { high = 0; low = 0; first = 7; wrap = 4294967295 }) []) (codes "h") action.GetSystemUpdateId ≡ answer.Number 7)
 
 -- ---- subscriptions
 
@@ -86,7 +86,7 @@ abbrev told : List Command
 told = Scans one ∷ subscribed
 
 abbrev comes : ℕ → List Command → Result Gena GenaError → Outcome
-comes now commands asked = outcome_of (refusal_of 0 now commands) (living_number beginning now commands) asked
+comes now commands asked = outcome_of (refusal_of now commands) (living_number beginning now commands) asked
 
 abbrev renewal : ℕ → Result Gena GenaError
 renewal number = Ok (Renew (record { 0 = name_of beginning number }) 1800)
@@ -105,9 +105,9 @@ SubscriptionsAreAnswered =
     × (comes 0 subscribed (renewal 2) ≡ Refused 412)
     × (comes 0 subscribed (giving_up 0) ≡ Refused 412)
     × (comes 0 subscribed (giving_up 1) ≡ Ended 1)
-    × (refusal_of 0 1799999 (grants 63) ≡ None)
-    × (refusal_of 0 1799999 (grants 64) ≡ Some (Full 64))
-    × (refusal_of 0 1800000 (grants 64) ≡ None)
+    × (refusal_of 1799999 (grants 63) ≡ None)
+    × (refusal_of 1799999 (grants 64) ≡ Some (Full 64))
+    × (refusal_of 1800000 (grants 64) ≡ None)
     × (lease_fields (name_of beginning 1) 1800
     ≡ field (codes "SID") (codes "uuid:00000000-0000-8000-8000-000000000001") ∷ field (codes "TIMEOUT") (codes "Second-1800") ∷ [])
     × (due beginning subscribed 1000 ≡ None)

@@ -5,7 +5,7 @@ use Rattle.url.specs.Parts.{Parts}
 use Rattle.cds_http.specs.declared.message.Start.TheVariants.{Request, Reply}
 use Rattle.cds_http.specs.declared.message.Message.{Message}
 use Rattle.cds_gena.specs.Asked.{field_of, gena_of}
-use Rattle.cds_gena.specs.Served.{Served, lives_at}
+use Rattle.cds_gena.specs.Served.{Served}
 use Rattle.cds_gena.specs.Subscribed.{last_number}
 use Rattle.cds_gena.specs.declared.sid.Sid.{Sid}
 use Rattle.cds_gena.specs.declared.error.GenaError.TheVariants.{Incompatible, Precondition}
@@ -18,7 +18,7 @@ use Rattle.cds_changes.specs.Events.{events_between}
 use Rattle.cds_commands.specs.Commands.{Command, Start, Ticks, AreAccepted, scans_of}
 use Rattle.cds_commands.specs.Names.{name_of}
 use Rattle.cds_commands.specs.Releases.{Release, release_at, releases_of}
-use Rattle.cds_commands.specs.Subscriptions.{granted, subscription_limit}
+use Rattle.cds_commands.specs.Subscriptions.{granted, is_alive, subscription_limit}
 use Rattle.cds_commands.specs.Notes.{Note, alive_names, notes_of, sent_by}
 use Rattle.cds_soap.specs.Laws.{is_host}
 use Rattle.cds_control.specs.Answering.{answer_to}
@@ -81,7 +81,7 @@ AsksOfSubscription m =
 -- 412: a field is missing or not in its form, or no subscription of the name lives. A name is that of a number.
 abbrev pub LivesNone : Start → List Command → ℕ → ℕ → Type 0
 LivesNone start commands now name =
-    (number : ℕ) → number ≤ last_number → name ≡ name_of start number → lives_at start.first now commands number ≡ true → ⊥
+    (number : ℕ) → number ≤ last_number → name ≡ name_of start number → is_alive number now commands ≡ true → ⊥
 
 abbrev pub NamesNoneLiving : Start → List Command → ℕ → Message → Type 0
 NamesNoneLiving start commands now m = (sid : Sid) × LivesNone start commands now sid.0
@@ -90,7 +90,7 @@ NamesNoneLiving start commands now m = (sid : Sid) × LivesNone start commands n
 -- 503: the message asks for a new subscription, and no number is left, or as many live as may.
 abbrev pub FindsNoRoom : Start → List Command → ℕ → Message → Type 0
 FindsNoRoom start commands now m = ((url : Parts) × (seconds : ℕ) × (gena_of m ≡ Ok (Subscribe url seconds)))
-    × ((granted commands ≡ last_number) ⊎ (subscription_limit ≤ length (alive_names now commands (notes_of start.first commands))))
+    × ((granted commands ≡ last_number) ⊎ (subscription_limit ≤ length (alive_names now commands)))
 
 -- 200: the request is accepted.
 abbrev pub IsAccepted : Start → List Command → ℕ → Message → Type 0
@@ -107,7 +107,7 @@ HasEventCause start commands now m text =
 -- most 64 live.
 abbrev pub accepted_are_served : Type 0
 accepted_are_served = (start : Start) (older : List Command) (before now : ℕ) (m : Message) (command : Command) →
-    Served start.first before older → before ≤ now → command_at start older now m ≡ Some command → Served start.first now (command ∷ older)
+    Served before older → before ≤ now → command_at start older now m ≡ Some command → Served now (command ∷ older)
 
 -- Each reply has its status for its cause, and no message is answered otherwise.
 abbrev pub replies_have_causes : Type 0

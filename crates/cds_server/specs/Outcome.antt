@@ -9,11 +9,10 @@ use Rattle.cds_http.specs.declared.message.Message.{Message}
 use Rattle.cds_http.specs.Written.{written_reply}
 use Rattle.cds_commands.specs.Commands.{Command, Start, Grants, Renews, Ends, scans_of}
 use Rattle.cds_commands.specs.Names.{names_of}
-use Rattle.cds_commands.specs.Subscriptions.{end_after, granted}
-use Rattle.cds_commands.specs.Notes.{Note, alive_names, first_note, notes_of}
+use Rattle.cds_commands.specs.Subscriptions.{end_after, granted, is_alive}
+use Rattle.cds_commands.specs.Notes.{Note, alive_names, first_note}
 use Rattle.cds_control.specs.Replies.{empty_reply}
 use Rattle.cds_gena.specs.Asked.{gena_of, is_deliverable}
-use Rattle.cds_gena.specs.Served.{lives_at}
 use Rattle.cds_gena.specs.SidText.{sid_text}
 use Rattle.cds_gena.specs.Subscribed.{Booked, IsDelivered, Subscribed, grant_refusal, if_full, last_number, living_named, number_of, renewed, with_grant, without}
 use Rattle.cds_gena.specs.declared.error.GenaError.{GenaError}
@@ -72,20 +71,19 @@ outcome_of refusal number (Ok (Unsubscribe sid)) = ending (number sid.0)
 outcome_of refusal number (Err cause) = Refused (status_of cause)
 
 -- No subscription is granted if the last number was given. Otherwise none is granted if as many live as may.
-abbrev pub refusal_of : ℕ → ℕ → List Command → Option GenaError
-refusal_of first now commands =
-    cond (nat_eq (granted commands) last_number) (Some Spent) (if_full (length (alive_names now commands (notes_of first commands))))
+abbrev pub refusal_of : ℕ → List Command → Option GenaError
+refusal_of now commands = cond (nat_eq (granted commands) last_number) (Some Spent) (if_full (length (alive_names now commands)))
 
 -- the number of a name whose subscription lives at a moment
-abbrev pub if_lives : ℕ → ℕ → List Command → Option ℕ → Option ℕ
-if_lives first now commands None = None
-if_lives first now commands (Some number) = cond (lives_at first now commands number) (Some number) None
+abbrev pub if_lives : ℕ → List Command → Option ℕ → Option ℕ
+if_lives now commands None = None
+if_lives now commands (Some number) = cond (is_alive number now commands) (Some number) None
 
 abbrev pub living_number : Start → ℕ → List Command → ℕ → Option ℕ
-living_number start now commands name = if_lives start.first now commands (number_of (names_of start) name)
+living_number start now commands name = if_lives now commands (number_of (names_of start) name)
 
 abbrev pub outcome : Start → List Command → ℕ → Message → Outcome
-outcome start commands now m = outcome_of (refusal_of start.first now commands) (living_number start now commands) (gena_of m)
+outcome start commands now m = outcome_of (refusal_of now commands) (living_number start now commands) (gena_of m)
 
 -- ---- what is done, and what is replied
 
@@ -122,10 +120,10 @@ event_reply start commands now m = outcome_reply (names_of start) (granted comma
 
 -- ---- the first note
 
--- a note to a name at a callback, which tells no containers
+-- the first note to a name at a callback, which has SEQ 0 and tells no containers
 abbrev pub noted : ℕ → List ℕ → Note → FirstNote
 noted name callback note = record {
-  to = record { sid = record { 0 = name }; callback = callback; seq = note.seq };
+  to = record { sid = record { 0 = name }; callback = callback; seq = 0 };
   body = propertyset_text note.number [] note.events;
 }
 
@@ -149,7 +147,7 @@ outcome_in book now asked = outcome_of (grant_refusal now book.subscribed) (λ n
 
 -- what is kept after it
 abbrev pub with_subscribed : Booked → Subscribed → Booked
-with_subscribed book subscribed = record { names = book.names; subscribed = subscribed }
+with_subscribed book subscribed = record book { subscribed = subscribed }
 
 abbrev pub done : ℕ → Outcome → Booked → Booked
 done now (Refused status) book = book

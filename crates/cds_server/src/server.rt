@@ -1,10 +1,11 @@
 //! The server: what it keeps, and its calls.
 
-ghost use Rattle.std.specs.Prelude.{◌≡◌, ◌<◌, ◌^◌, ◌∷◌, ◌++◌, List, [], length, false, true, slice_index, is_some, Some, None, IfOk, IfErr, IfSome, OnOk, OnErr};
+ghost use Rattle.std.specs.Prelude.{◌≡◌, ◌<◌, ◌≤◌, ◌^◌, ◌∷◌, ◌++◌, List, [], length, false, true, slice_index, is_some, Some, None, IfOk, IfErr, IfSome, OnOk, OnErr};
 ghost use Rattle.cds_catalog.specs.History.{end_of};
 ghost use Rattle.cds_catalog.specs.Scans.{bad_record};
 ghost use Rattle.cds_commands.specs.Commands.{Command, Start, Stops, Ticks, is_stopped, scans_of};
 ghost use Rattle.cds_control.specs.Making.{made_to};
+ghost use Rattle.cds_gena.specs.Subscribed.{least_wrap};
 ghost use Rattle.cds_moderator.specs.Moderating.{next_span};
 ghost use Rattle.cds_server.specs.Asking.{ChangesNone, Fits, asked_command, asked_note, asked_reply, command_in, note_in, reply_in, said};
 ghost use Rattle.cds_server.specs.Due.{AllGoOut, due};
@@ -58,11 +59,19 @@ impl Model for Server {
 
 impl Server {
     /// Makes a server before any command: its library is empty. It begins with two boot words, of which its names are made, and
-    /// with its first number.
+    /// with its first number. After SEQ 4294967295 comes SEQ 1, as UPnP Device Architecture 2.0 has it.
     pub fn new(alloc: Global, boot: [u64; 2], first: u32) -> Result<Server, Mem>
-        ensures { IfOk result (λ server. StandsFor server (record { high = slice_index boot 0; low = slice_index boot 1; first = first }) []) }
+        ensures { IfOk result (λ server. StandsFor server (record { high = slice_index boot 0; low = slice_index boot 1; first = first; wrap = 4294967295 }) []) }
     {
-        let book = Book::new(alloc, boot);
+        Server::with_wrap(alloc, boot, first, u32::MAX)
+    }
+
+    /// Makes such a server for which SEQ 1 comes after another SEQ, which is at least 256. It is for tests.
+    pub fn with_wrap(alloc: Global, boot: [u64; 2], first: u32, wrap: u32) -> Result<Server, Mem>
+        requires { least_wrap ≤ wrap }
+        ensures { IfOk result (λ server. StandsFor server (record { high = slice_index boot 0; low = slice_index boot 1; first = first; wrap = wrap }) []) }
+    {
+        let book = Book::with_wrap(alloc, boot, wrap);
         let store = Store::new(alloc, first)?;
         Ok(Server {
             store,

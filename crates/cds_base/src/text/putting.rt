@@ -4,6 +4,7 @@ ghost use Rattle.std.specs.Prelude.{◌≡◌, ◌++◌, OnErr, OnOk, string_byt
 ghost use Rattle.std.specs.Fmt.{decimal};
 
 use crate::Mem;
+use itoa::Buffer;
 
 /// Appends a text. A refusal leaves `out` as it was.
 pub fn put(out: &mut String, text: &str) -> Result<(), Mem>
@@ -19,7 +20,7 @@ pub fn put_number(out: &mut String, number: u64) -> Result<(), Mem>
     ensures ok { OnOk result (string_bytes out.new ≡ string_bytes out.old ++ decimal number) }
     ensures err { OnErr result (string_bytes out.new ≡ string_bytes out.old) }
 {
-    let digits = number.to_string(*out.allocator())?;
-    out.push_str(digits.as_str())?;
+    let mut buffer = Buffer::new();
+    out.push_str(buffer.format(number))?;
     Ok(())
 }

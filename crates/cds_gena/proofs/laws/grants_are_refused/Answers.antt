@@ -7,4 +7,4 @@ use Rattle.cds_gena.proofs.Commands.{as-many}
 use Rattle.cds_gena.proofs.laws.grants_are_refused.Goals as goal
 
 pub returns : goal.returns
-returns c = λ first now commands. ap (λ n. cond (nat_eq (granted commands) last_number) (Some Spent) (if_full n)) (sym (as-many first now commands))
+returns c = λ start now commands. ap (λ n. cond (nat_eq (granted commands) last_number) (Some Spent) (if_full n)) (sym (as-many start now commands))

@@ -2,4 +2,4 @@ use Rattle.cds_gena.proofs.Commands.{booked-renewal}
 use Rattle.cds_gena.proofs.laws.renewals_put_off.Goals as goal
 
 pub returns : goal.returns
-returns c = λ first now number seconds older. booked-renewal first older now number seconds
+returns c = λ start now number seconds older. booked-renewal start older now number seconds

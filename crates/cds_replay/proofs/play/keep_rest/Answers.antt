@@ -1,5 +1,5 @@
 -- What a limit adds to the text is what the sink takes.
-use Rattle.std.proofs.Common.{◌++◌, [], subst, ap, ◌∙◌, string_bytes}
+use Rattle.std.proofs.Common.{◌++◌, subst, ap, ◌∙◌, string_bytes}
 use Rattle.cds_replay.specs.Script.{Fed, stop_status, stop_text, stop_refused}
 use Rattle.cds_replay.specs.Replay.{Holds}
 use Rattle.cds_replay.proofs.Writing.{written-ok, written-stops, written-unrefused, closes}

@@ -1,6 +1,6 @@
 -- The search for the first LF, as the parts around it.
 use Rattle.std.proofs.Common.{arith, ◌≡◌, drop, ◌∙◌, ap}
-use Rattle.cds_replay.proofs.Cuts.{unbroken-none, unbroken-before, cut-at}
+use Rattle.cds_summary.proofs.Cuts.{unbroken-none, unbroken-before, cut-at}
 use Rattle.cds_replay.proofs.script.cut_line.Goals as goal
 
 pub returns-in-None : goal.returns-in-None

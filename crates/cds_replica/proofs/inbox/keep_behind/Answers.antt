@@ -5,4 +5,4 @@ use Rattle.cds_replica.proofs.inbox.keep_behind.Goals as goal
 
 pub returns : goal.returns
 returns c =
-    filter_same _ (λ (note : Note). nat_eq note.name c.args.sid.0 && nat_lt c.args.next note.seq) _ (λ x b f r. search rules) _ _ c.retain.ensures.filtered
+    filter_same _ (λ (note : Note). nat_eq note.name c.args.sid.0 && nat_lt c.args.next note.place) _ (λ x b f r. search rules) _ _ c.retain.ensures.filtered

@@ -6,7 +6,7 @@ use Rattle.cds_server.proofs.events.end.Goals as goal
 
 pub returns-in-Ok-clause-answers : goal.returns-in-Ok-clause-answers
 returns-in-Ok-clause-answers c =
-    λ number. end-made c.args.book.now number c.args.now c.args.sid.0 _ _ _ (c.in-Ok.ensures.lives.0 refl) c.in-Ok.ensures.ended c.in-Ok.ensures.names
+    λ number. end-made c.args.book.now number c.args.now c.args.sid.0 _ _ _ (c.in-Ok.ensures.lives.0 refl) c.in-Ok.ensures.ended c.in-Ok.ensures.names c.in-Ok.ensures.wrap
     c.in_ok-put_empty.ensures.ok
 
 pub returns-in-Err-clause-answers : goal.returns-in-Err-clause-answers

@@ -8,7 +8,7 @@ use Rattle.cds_server.proofs.events.grant_named.Goals as goal
 pub returns-in-Ok-clause-answers : goal.returns-in-Ok-clause-answers
 returns-in-Ok-clause-answers c =
     made-grant c.args.book.now c.args.when.number c.args.when.moment _ _ _ _ (serialize c.args.callback.now) c.args.lease.seconds c.args.lease.sid.0 c.in-Ok.ensures.room
-    c.in_ok-put_lease.ensures.ok c.requires.named c.in-Ok.ensures.names c.in-Ok.ensures.granted (ap Some c.in_ok-note.ensures.note) refl
+    c.in_ok-put_lease.ensures.ok c.requires.named c.in-Ok.ensures.names c.in-Ok.ensures.wrap c.in-Ok.ensures.granted (ap Some c.in_ok-note.ensures.note) refl
 
 pub returns-in-Err-clause-answers : goal.returns-in-Err-clause-answers
 returns-in-Err-clause-answers c =

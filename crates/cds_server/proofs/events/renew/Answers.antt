@@ -7,7 +7,7 @@ use Rattle.cds_server.proofs.events.renew.Goals as goal
 pub returns-in-Ok-clause-answers : goal.returns-in-Ok-clause-answers
 returns-in-Ok-clause-answers c =
     λ number. renewal-made c.args.book.now number c.args.now c.args.lease.sid.0 _ _ _ c.args.lease.seconds (c.in-Ok.ensures.lives.0 refl) c.in-Ok.ensures.renewed
-    c.in-Ok.ensures.names c.in_ok-put_lease.ensures.ok
+    c.in-Ok.ensures.names c.in-Ok.ensures.wrap c.in_ok-put_lease.ensures.ok
 
 pub returns-in-Err-clause-answers : goal.returns-in-Err-clause-answers
 returns-in-Err-clause-answers c =

@@ -11,6 +11,8 @@ invariant_of-self c = subst (IsBook c.self.inside.names c.self.inside.granted) (
 pub returns-clause-stands : goal.returns-clause-stands
 returns-clause-stands c start commands stands none = record {
   names = ap (λ (z : Booked). z.names) c.self.view_is ∙ stands.names;
+  wrap = ap (λ (z : Booked). z.wrap) c.self.view_is ∙ stands.wrap;
+  wide = stands.wide;
   subscribed = (λ i. record { granted = c.self.inside.granted; living = c.drop_past.ensures i })
-      ∙ (ap (λ (z : Booked). expired c.args.now z.subscribed) c.self.view_is ∙ (ap (expired c.args.now) stands.subscribed ∙ sym (booked-silent start.first commands c.args.now none)));
+      ∙ (ap (λ (z : Booked). expired c.args.now z.subscribed) c.self.view_is ∙ (ap (expired c.args.now) stands.subscribed ∙ sym (booked-silent start commands c.args.now none)));
 }

@@ -1,4 +1,4 @@
-use Rattle.std.proofs.Common.{IsAscii, IsSome, refl, rules, sym, subst, arith, ◌+◌}
+use Rattle.std.proofs.Common.{IsAscii, IsSome, refl, rules, sym, subst, arith, ◌+◌, ◌<◌}
 use Rattle.cds_gena.specs.Asked.{url_in}
 use Rattle.cds_gena.specs.Subscribed.{IsBook, Booked, Subscribed, with_grant}
 use Rattle.cds_gena.proofs.Delivered.{book-more, own-url}
@@ -23,12 +23,17 @@ returns-clause-stands c start commands stands =
     let now : Subscribed = record { granted = c.self.inside.granted + 1; living = c.add.new.living.entries } in
     let step : now ≡ with_grant c.args.now (serialize c.args.callback.now) c.args.seconds c.args.self.now.subscribed = search rules in
     let names = ap (λ (z : Booked). z.names) c.self.view_is ∙ stands.names in
+    let wrap : c.self.inside.wrap ≡ start.wrap = ap (λ (z : Booked). z.wrap) c.self.view_is ∙ stands.wrap in
+    let least = stands.wide in
+    let some : 0 < start.wrap = omega (arith, least) in
     let many = ap (λ (z : Booked). z.subscribed.granted) c.self.view_is ∙ ap (λ (s : Subscribed). s.granted) stands.subscribed in
     let number = c.from.ensures in (
       omega (arith, names, many, number),
       record {
         names = names;
+        wrap = wrap;
+        wide = stands.wide;
         subscribed = step ∙ (ap (with_grant c.args.now (serialize c.args.callback.now) c.args.seconds) stands.subscribed
-            ∙ sym (booked-grant start.first commands c.args.now (serialize c.args.callback.now) c.args.seconds));
+            ∙ sym (booked-grant start commands c.args.now (serialize c.args.callback.now) c.args.seconds some));
       },
     )

@@ -1,4 +1,4 @@
-use Rattle.std.proofs.Common.{◌≡◌, ◌-◌, ℕ, List, length, refl, sym, ap, subst, ◌∙◌, ne_eqb}
+use Rattle.std.proofs.Common.{◌-◌, ℕ, List, length, refl, sym, ap, subst, ◌∙◌, ne_eqb}
 use Rattle.std.specs.Prelude.{slice_get}
 use Rattle.std.proofs.lemmas.Option.{slice_get_read}
 use Rattle.cds_replay.specs.declared.sent.KeptNote.{KeptNote}

@@ -1,5 +1,4 @@
 use Rattle.std.proofs.Common.{◌≡◌, ◌++◌, List, [], ◌∷◌, ℕ, map, length, sym, ap, ◌∙◌, subst}
-use Rattle.cds_gena.specs.declared.address.Address.{Address}
 use Rattle.cds_replay.specs.declared.sent.KeptNote.{KeptNote}
 use Rattle.cds_replay.specs.Sending.{SentNote, note_at, kept_note, sent_to, AreKept}
 use Rattle.cds_replay.proofs.Sending.{all-kept, all-told}

@@ -1,7 +1,7 @@
 -- Each turn is that of one function.
 use Rattle.std.proofs.Common.{◌≡◌, ◌∷◌, true, refl, sym, subst, string_bytes}
 use Rattle.std.proofs.lemmas.Result.{on_ok_weaker}
-use Rattle.cds_script.specs.declared.turn.ScriptTurn.TheVariants.{Folder, Track, Tag, Scan, Load, Ask, First, At, Subscribe, Accept, Renew, Unsubscribe, Deliver, ReadFault}
+use Rattle.cds_script.specs.declared.turn.ScriptTurn.TheVariants.{Folder, Track, Tag, Scan, Load, Ask, First, Wrap, At, Subscribe, Accept, Renew, Unsubscribe, Deliver, ReadFault}
 use Rattle.cds_script.specs.Script.{IsInRange}
 use Rattle.cds_replay.specs.Wired.{may_stand_by}
 use Rattle.cds_replay.specs.Session.{IsAfter, TurnTaken, quiet}
@@ -57,6 +57,12 @@ returns-in-First-clause-taken g c = λ steps after.
     subst (λ t. TurnTaken (g.W.Wire.carried c.args.wire.now) steps t (string_bytes c.args.out.now) (string_bytes c.args.out.now) c.begin_at.new.self c.of_memory-in-First.result) (sym c.in-First.is)
     (silent-turn (g.W.Wire.carried c.args.wire.now) steps (First c.in-First.number) (string_bytes c.args.out.now) c.begin_at.new.self c.begin_at.result c.of_memory-in-First.result
     c.of_memory-in-First.ensures refl refl refl (c.begin_at.ensures.after steps after))
+
+pub returns-in-Wrap-clause-taken : goal.returns-in-Wrap-clause-taken
+returns-in-Wrap-clause-taken g c = λ steps after.
+    subst (λ t. TurnTaken (g.W.Wire.carried c.args.wire.now) steps t (string_bytes c.args.out.now) (string_bytes c.args.out.now) c.begin_with.new.self c.of_memory-in-Wrap.result) (sym c.in-Wrap.is)
+    (silent-turn (g.W.Wire.carried c.args.wire.now) steps (Wrap c.in-Wrap.number) (string_bytes c.args.out.now) c.begin_with.new.self c.begin_with.result c.of_memory-in-Wrap.result
+    c.of_memory-in-Wrap.ensures refl refl refl (c.begin_with.ensures.after steps after))
 
 pub returns-in-At-clause-taken : goal.returns-in-At-clause-taken
 returns-in-At-clause-taken g c = λ steps after.
@@ -138,6 +144,11 @@ pub returns-in-First-clause-grows : goal.returns-in-First-clause-grows
 returns-in-First-clause-grows g c =
     turn-grows (g.W.Wire.carried c.args.wire.now) c.requires.standing.0 c.args.turn (string_bytes c.args.out.now) (string_bytes c.args.out.now) c.args.self.now c.begin_at.new.self c.of_memory-in-First.result c.requires.standing.1
     (returns-in-First-clause-taken g c c.requires.standing.0 c.requires.standing.1)
+
+pub returns-in-Wrap-clause-grows : goal.returns-in-Wrap-clause-grows
+returns-in-Wrap-clause-grows g c =
+    turn-grows (g.W.Wire.carried c.args.wire.now) c.requires.standing.0 c.args.turn (string_bytes c.args.out.now) (string_bytes c.args.out.now) c.args.self.now c.begin_with.new.self c.of_memory-in-Wrap.result c.requires.standing.1
+    (returns-in-Wrap-clause-taken g c c.requires.standing.0 c.requires.standing.1)
 
 pub returns-in-At-clause-grows : goal.returns-in-At-clause-grows
 returns-in-At-clause-grows g c =

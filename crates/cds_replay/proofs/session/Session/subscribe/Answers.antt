@@ -24,13 +24,13 @@ pub send_granted-requires : goal.send_granted-requires
 send_granted-requires c =
     let steps = c.requires.standing.0 in
     let after = c.requires.standing.1 in
-    let was : Playing = record { server = c.self.inside.server; replica = c.self.inside.replica; sent = c.self.inside.sent; found = c.self.inside.found; clock = c.self.inside.clock; reply = c.self.inside.reply; last = c.self.inside.last } in
+    let was : Playing = record { server = c.self.inside.server; replica = c.self.inside.replica; sent = c.self.inside.sent; found = c.self.inside.found; clock = c.self.inside.clock; reply = c.self.inside.reply; last = c.self.inside.last; wrap = c.self.inside.wrap } in
     let old : IsAfter was steps = subst (λ p. IsAfter p steps) (sym c.self.view_is) after in
-    (c.in_ok-note.ensures (script_start (first_of (turns_in steps))) (played_by steps).commands old.server).goes
+    (c.in_ok-note.ensures (script_start (played_by steps).wrap (first_of (turns_in steps))) (played_by steps).commands old.server).goes
 
 pub returns-clause-after : goal.returns-clause-after
 returns-clause-after c = λ steps after.
-    let was : Playing = record { server = c.self.inside.server; replica = c.self.inside.replica; sent = c.self.inside.sent; found = c.self.inside.found; clock = c.self.inside.clock; reply = c.self.inside.reply; last = c.self.inside.last } in
+    let was : Playing = record { server = c.self.inside.server; replica = c.self.inside.replica; sent = c.self.inside.sent; found = c.self.inside.found; clock = c.self.inside.clock; reply = c.self.inside.reply; last = c.self.inside.last; wrap = c.self.inside.wrap } in
     let old : IsAfter was steps = subst (λ p. IsAfter p steps) (sym c.self.view_is) after in
     let asked : (start : Start) (commands : List Command) → StandsFor was.server start commands →
     IsAnswered start commands was.clock (subscribe_text event_url callback_url) [] c.answered.new.reply.items c.in_ok-note.note c.answered.new.server =
@@ -48,7 +48,7 @@ returns-clause-after c = λ steps after.
 
 pub returns-clause-written : goal.returns-clause-written
 returns-clause-written c = λ steps after.
-    let was : Playing = record { server = c.self.inside.server; replica = c.self.inside.replica; sent = c.self.inside.sent; found = c.self.inside.found; clock = c.self.inside.clock; reply = c.self.inside.reply; last = c.self.inside.last } in
+    let was : Playing = record { server = c.self.inside.server; replica = c.self.inside.replica; sent = c.self.inside.sent; found = c.self.inside.found; clock = c.self.inside.clock; reply = c.self.inside.reply; last = c.self.inside.last; wrap = c.self.inside.wrap } in
     let old : IsAfter was steps = subst (λ p. IsAfter p steps) (sym c.self.view_is) after in
     let asked : (start : Start) (commands : List Command) → StandsFor was.server start commands →
     IsAnswered start commands was.clock (subscribe_text event_url callback_url) [] c.answered.new.reply.items c.in_ok-note.note c.answered.new.server =

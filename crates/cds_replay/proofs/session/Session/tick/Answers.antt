@@ -11,7 +11,7 @@ use Rattle.cds_replay.proofs.session.Session.tick.Goals as goal
 
 pub returns-clause-after : goal.returns-clause-after
 returns-clause-after c = λ steps after.
-    let was : Playing = record { server = c.self.inside.server; replica = c.self.inside.replica; sent = c.self.inside.sent; found = c.self.inside.found; clock = c.self.inside.clock; reply = c.self.inside.reply; last = c.self.inside.last } in
+    let was : Playing = record { server = c.self.inside.server; replica = c.self.inside.replica; sent = c.self.inside.sent; found = c.self.inside.found; clock = c.self.inside.clock; reply = c.self.inside.reply; last = c.self.inside.last; wrap = c.self.inside.wrap } in
     let old : IsAfter was steps = subst (λ p. IsAfter p steps) (sym c.self.view_is) after in
     let t = tick-turn was c.tick.new.self c.in_ok-notes.notes c.send_due.new.self c.args.moment steps old (subst (λ (p : Playing). p.clock ≤ c.args.moment) (sym c.self.view_is) c.requires.rises)
     c.requires.within (subst (λ (p : Playing). p.server.book.subscribed.granted < 2 ^ 32) (sym c.self.view_is) c.requires.granted)
@@ -20,7 +20,7 @@ returns-clause-after c = λ steps after.
 
 pub returns-clause-written : goal.returns-clause-written
 returns-clause-written c = λ steps after.
-    let was : Playing = record { server = c.self.inside.server; replica = c.self.inside.replica; sent = c.self.inside.sent; found = c.self.inside.found; clock = c.self.inside.clock; reply = c.self.inside.reply; last = c.self.inside.last } in
+    let was : Playing = record { server = c.self.inside.server; replica = c.self.inside.replica; sent = c.self.inside.sent; found = c.self.inside.found; clock = c.self.inside.clock; reply = c.self.inside.reply; last = c.self.inside.last; wrap = c.self.inside.wrap } in
     let old : IsAfter was steps = subst (λ p. IsAfter p steps) (sym c.self.view_is) after in
     let t = tick-turn was c.tick.new.self c.in_ok-notes.notes c.send_due.new.self c.args.moment steps old (subst (λ (p : Playing). p.clock ≤ c.args.moment) (sym c.self.view_is) c.requires.rises)
     c.requires.within (subst (λ (p : Playing). p.server.book.subscribed.granted < 2 ^ 32) (sym c.self.view_is) c.requires.granted)

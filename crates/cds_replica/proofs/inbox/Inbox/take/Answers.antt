@@ -1,5 +1,5 @@
-use Rattle.std.proofs.Common.{◌≤◌, ℕ, sym, ap, subst}
-use Rattle.cds_replica.specs.Inboxed.{KeptInbox, IsInbox, run_after}
+use Rattle.std.proofs.Common.{sym, ap, subst}
+use Rattle.cds_replica.specs.Inboxed.{KeptInbox, IsInbox}
 use Rattle.cds_replica.proofs.Waiting.{next-waiting, inbox-next}
 use Rattle.cds_replica.proofs.inbox.Inbox.take.Goals as goal
 
@@ -11,6 +11,7 @@ returns c =
     let waiting = next-waiting c.args.note.now c.name.result.0 c.run_after-next.result kept c.self.inside.waiting.items c.keep_behind.new.notes.items before c.requires
     c.name.ensures waits c.run_after-next.ensures.after c.keep_behind.ensures in
     λ i. record {
+      wrap = (c.self.view_is i).wrap;
       accepted = (c.self.view_is i).accepted;
       out = (c.self.view_is i).out;
       next = c.run_after-next.ensures.after i;
@@ -22,5 +23,4 @@ pub invariant_of-self : goal.invariant_of-self
 invariant_of-self c =
     let kept = c.args.self.now in
     let before : IsInbox kept = subst IsInbox c.self.view_is c.self.invariant in
-    let within : run_after kept ≤ 4294967296 = subst (λ (n : ℕ). n ≤ 4294967296) c.run_after-next.ensures.after c.run_after-next.ensures.within in
-    subst IsInbox (sym (returns c)) (inbox-next c.args.note.now kept before c.requires within)
+    subst IsInbox (sym (returns c)) (inbox-next c.args.note.now kept before c.requires)

@@ -14,7 +14,7 @@ returns-clause-told c =
     let first = c.in_ok-add.ensures ∙ ap (tells_note note) c.new-told.ensures in
     let ends = run-after note kept c.waiting.ensures.facts c.requires in
     c.in_ok-add_run.ensures
-    ∙ (λ i. tells (notes_from_to (c.next_seq.ensures.next i) (c.run_after-to.ensures.after i) (of_name (c.name.ensures i) (c.waiting.ensures.waiting i))) (first i))
+    ∙ (λ i. tells (notes_from_to (c.next_place.ensures.next i) (c.run_after-to.ensures.after i) (of_name (c.name.ensures i) (c.waiting.ensures.waiting i))) (first i))
     ∙ told-by note kept (run_after kept) (nothing_told c.args.position c.args.last_note) c.waiting.ensures.facts c.requires (sym ends)
 
 pub returns-clause-above : goal.returns-clause-above

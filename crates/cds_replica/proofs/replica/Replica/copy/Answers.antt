@@ -9,8 +9,8 @@ use Rattle.cds_replica.proofs.Keeping.{all-kept}
 use Rattle.cds_replica.proofs.replica.Replica.copy.Goals as goal
 
 pub returns-clause-rows : goal.returns-clause-rows
-returns-clause-rows c turns stood =
-    ap (filter_map shown_row) (c.rows.ensures ∙ ap (λ (kept : ReplicaState). phase_all kept.known.phase) (c.self.view_is ∙ stood)) ∙ all-kept turns
+returns-clause-rows c wrap turns stood =
+    ap (filter_map shown_row) (c.rows.ensures ∙ ap (λ (kept : ReplicaState). phase_all kept.known.phase) (c.self.view_is ∙ stood)) ∙ all-kept wrap turns
 
 pub returns-clause-attempt : goal.returns-clause-attempt
 returns-clause-attempt c =

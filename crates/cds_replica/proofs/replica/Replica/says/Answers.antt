@@ -7,14 +7,14 @@ use Rattle.cds_replica.proofs.Attempted.{says-by_attempt}
 use Rattle.cds_replica.proofs.replica.Replica.says.Goals as goal
 
 pub returns-in-Some-clause-says : goal.returns-in-Some-clause-says
-returns-in-Some-clause-says c turns stood =
+returns-in-Some-clause-says c wrap turns stood =
     let kept : Gap c.in-Some.missing ≡ kept_says c.args.self.now = search rules in
-    kept ∙ ap kept_says stood ∙ says-kept turns
+    kept ∙ ap kept_says stood ∙ says-kept wrap turns
 
 pub returns-in-None-clause-says : goal.returns-in-None-clause-says
-returns-in-None-clause-says c turns stood =
+returns-in-None-clause-says c wrap turns stood =
     let kept : c.says.result ≡ kept_says c.args.self.now = search rules in
-    kept ∙ ap kept_says stood ∙ says-kept turns
+    kept ∙ ap kept_says stood ∙ says-kept wrap turns
 
 pub returns-in-Some-clause-given : goal.returns-in-Some-clause-given
 returns-in-Some-clause-given c =

@@ -5,7 +5,7 @@ use Rattle.std.proofs.lemmas.Grind.{flat_map-append}
 use Rattle.std.proofs.lemmas.Str.{encodes-append}
 use Rattle.std.specs.Str.{encode_utf8_all}
 use Rattle.cds_base.specs.Escape.{escaped, escaped_byte}
-use Rattle.cds_base.proofs.text.escaping.escape.Goals as goal
+use Rattle.cds_base.proofs.text.escaping.escaped_text.Goals as goal
 
 pub loop-c-preserved : goal.loop-c-preserved
 loop-c-preserved c =
